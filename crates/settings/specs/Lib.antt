@@ -1,0 +1,4 @@
+pub mod Bounds
+pub mod Kinds
+pub mod Making
+pub mod Refusals
