@@ -1,0 +1,4 @@
+pub mod Laws
+pub mod Seats
+pub mod Stages
+pub mod Turns
