@@ -1,0 +1,3 @@
+pub mod ByteLists
+pub mod RegisterLists
+pub mod Tosses
