@@ -1,0 +1,13 @@
+pub mod Counting
+pub mod Quorums
+pub mod Rules
+pub mod Tables
+pub mod Unanimity
+pub mod Agreement
+pub mod Validity
+pub mod CatchingUp
+pub mod TwoWay
+pub mod Growing
+pub mod Leaving
+pub mod Status
+pub mod Example

@@ -1,0 +1,9 @@
+pub mod Counting
+pub mod Rules
+pub mod Books
+pub mod TwoWay
+pub mod History
+pub mod Agreement
+pub mod Status
+pub mod CatchingUp
+pub mod Example
