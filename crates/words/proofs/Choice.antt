@@ -30,7 +30,7 @@ long-bit : (n x y z : ℕ) → long n x y z % 2 ≡ long (n % 2) (x % 2) (y % 2)
 long-bit n x y z = xor-mod (bitAnd x y) (bitAnd n z) 1 ∙ ap₂ bitXor (and-mod x y 1) (and-mod n z 1)
 
 -- what holds of 0 and of 1 holds of each bit
-bit : (P : ℕ → Type 0) → P 0 → P 1 → (a : ℕ) → P (a % 2)
+pub bit : (P : ℕ → Type 0) → P 0 → P 1 → (a : ℕ) → P (a % 2)
 bit P p q a =
     elim (cases-eq (a % 2) 0) [
       | inl e ↦ subst P (sym e) p

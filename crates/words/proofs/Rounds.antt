@@ -11,6 +11,7 @@ use Rattle.std.proofs.shelf.Lists.{length-set, getD-set-same, getD-set-other, g
 use Rattle.std.proofs.shelf.Tests.{cases-eq}
 use Rattle.words.specs.Constants.{K}
 use Rattle.words.specs.Computation.{next-word, round, rounds, schedule}
+use Rattle.words.specs.Running.{Running}
 use Rattle.words.proofs.Schedule.{length-schedule, next-word-same, schedule-first, schedule-next}
 
 -- one more round
@@ -19,12 +20,7 @@ unfolding rounds
 rounds-more W H t n next e e′ =
     e′ ∙ ap (λ (x : List ℕ). round x (K t) (getD W t 0)) e ∙ ap (rounds W H) (sym (add-one t) ∙ next)
 
--- after t rounds from the hash value H, with the words of the schedule of M below t + 16 in w
-pub record Running (M H w v : List ℕ) (t : ℕ) : Type 0 where
-  pub full : length w ≡ 64
-  pub ready : (k : ℕ) → k < t + 16 → getD w k 0 ≡ getD (schedule M 64) k 0
-  pub turned : v ≡ rounds (schedule M 64) H t
-
+-- before the first round
 pub running-none : (H w : List ℕ) → length w ≡ 64 → Running (take 16 w) H w H 0
 unfolding rounds
 running-none H w n =
@@ -34,6 +30,7 @@ running-none H w n =
       turned = refl;
     }
 
+-- one more round, and one more word
 pub running-more : {M H w v w′ v′ : List ℕ} (t n : ℕ) → t + 1 ≡ n → t < 48 → Running M H w v t
     → v′ ≡ round v (K t) (getD w t 0) → w′ ≡ set w (t + 16) (next-word w (t + 16)) → Running M H w′ v′ n
 running-more {M} {H} {w} {v} {w′} {v′} t n next h was e f =

@@ -6,6 +6,7 @@ ghost use lib.ListN.{length, getD, set, take};
 ghost use Rattle.words.specs.Computation.{added, compress, next-word, round, rounds, schedule};
 ghost use Rattle.words.specs.Constants.{K};
 ghost use Rattle.words.specs.Padding.{word, words};
+ghost use Rattle.words.specs.Running.{Running};
 use super::constants::constant;
 use super::functions::big_sigma0;
 use super::functions::big_sigma1;
@@ -91,31 +92,56 @@ fn step(v: [u32; 8], w: &mut [u32; 64], t: usize) -> [u32; 8]
     next
 }
 
-// The rounds below 48, and the rest of the message schedule whose first sixteen words w has. Two at a turn are faster.
+// Rounds T to T + 7, and words T + 16 to T + 23 of the message schedule, from what stands before round T.
+// T is a constant parameter, so that each call is compiled with numbers in place of the indices: that is faster than a loop.
+fn eight_steps<const T: usize>(v: [u32; 8], w: &mut [u32; 64]) -> [u32; 8]
+    requires { ⌜ T + 8 ≤ 48 ⌝ }
+    ensures { λ r. ⌜ ((M H : List ℕ) → Running M H (now (w .entry)) v T → Running M H (now (w .exit)) r (T + 8)) ⌝ }
+{
+    let one = step(v, w, T);
+    let two = step(one, w, T + 1);
+    let three = step(two, w, T + 2);
+    let four = step(three, w, T + 3);
+    let five = step(four, w, T + 4);
+    let six = step(five, w, T + 5);
+    let seven = step(six, w, T + 6);
+    step(seven, w, T + 7)
+}
+
+// Rounds T to T + 7, where the message schedule is whole.
+fn eight_rounds<const T: usize>(v: [u32; 8], w: &[u32; 64]) -> [u32; 8]
+    requires { ⌜ T + 8 ≤ 64 ⌝ }
+    ensures { λ r. ⌜ ((H : List ℕ) → v ≡ rounds (now (w .entry)) H T → r ≡ rounds (now (w .entry)) H (T + 8)) ⌝ }
+{
+    let one = round_at(v, w, T);
+    let two = round_at(one, w, T + 1);
+    let three = round_at(two, w, T + 2);
+    let four = round_at(three, w, T + 3);
+    let five = round_at(four, w, T + 4);
+    let six = round_at(five, w, T + 5);
+    let seven = round_at(six, w, T + 6);
+    round_at(seven, w, T + 7)
+}
+
+// The rounds below 48, and the rest of the message schedule whose first sixteen words w has.
 fn first_rounds(hash: [u32; 8], w: &mut [u32; 64]) -> [u32; 8]
     ensures value { λ r. ⌜ r ≡ rounds (now (w .exit)) hash 48 ⌝ }
     ensures after { λ _. ⌜ now (w .exit) ≡ schedule (take 16 (now (w .entry))) 64 ⌝ }
 {
-    let mut v = hash;
-    for i in 0..24 {
-        let one = step(v, w, 2 * i);
-        let two = step(one, w, 2 * i + 1);
-        v = two;
-    }
-    v
+    let at8 = eight_steps::<0>(hash, w);
+    let at16 = eight_steps::<8>(at8, w);
+    let at24 = eight_steps::<16>(at16, w);
+    let at32 = eight_steps::<24>(at24, w);
+    let at40 = eight_steps::<32>(at32, w);
+    eight_steps::<40>(at40, w)
 }
 
-// The rounds from 48 on. Two at a turn are faster.
+// The rounds from 48 on.
 fn last_rounds(v: [u32; 8], w: &[u32; 64]) -> [u32; 8]
     ensures { λ r. ⌜ ((hash : List ℕ) → v ≡ rounds (now (w .entry)) hash 48 → r ≡ rounds (now (w .entry)) hash 64) ⌝ }
 {
-    let mut v = v;
-    for i in 24..32 {
-        let one = round_at(v, w, 2 * i);
-        let two = round_at(one, w, 2 * i + 1);
-        v = two;
-    }
-    v
+    let at56 = eight_rounds::<48>(v, w);
+    eight_rounds::<56>(at56, w)
 }
 
 // The working variables added to the hash value.

@@ -9,11 +9,11 @@ pub(super) fn ch(x: u32, y: u32, z: u32) -> u32
     z ^ (x & (y ^ z))
 }
 
-// Each bit is the majority of the three.
+// Each bit is the majority of the three; one round's `y ^ z` is the `x ^ y` of the round before, so the compiler can share it.
 pub(super) fn maj(x: u32, y: u32, z: u32) -> u32
     ensures { λ r. ⌜ r ≡ Maj x y z ⌝ }
 {
-    (x & y) ^ (x & z) ^ (y & z)
+    y ^ ((x ^ y) & (y ^ z))
 }
 
 // The rotations by 2, 13 and 22, combined by exclusive or.

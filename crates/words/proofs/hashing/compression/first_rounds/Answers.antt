@@ -1,25 +1,25 @@
--- Two rounds more at each turn, and at the end the whole schedule.
-use mathlib.Core.Path.{_≡_, sym, _∙_}
-use Prim.Native.Nat.{_+_, _*_}
+-- Eight rounds more at each call, and at the end the whole schedule.
+use mathlib.Core.Path.{sym, ap, _∙_}
+use mathlib.Core.List.{List}
+use Prim.Native.Nat.{ℕ}
 use native.Mathlib.Omega.{arith}
+use lib.ListN.{take}
 use Rattle.words.specs.Computation.{rounds}
-use Rattle.words.proofs.Rounds.{running-none, running-more, running-all}
+use Rattle.words.proofs.Rounds.{running-none, running-all}
 use Rattle.words.proofs.hashing.compression.first_rounds.Needs as need
-
-pub loop-i-holds : need.loop-i-holds
-loop-i-holds c = running-none (c .args .hash) (c .args .w .now) (c .told-w)
-
-pub loop-i-again : need.loop-i-again
-loop-i-again c =
-    let t = 2 * c .loop-i .i in
-    let one = running-more t (t + 1) (omega arith) (omega arith) (c .loop-i .inv) (c .step-one .ensures .value) (c .step-one .ensures .after) in
-    running-more (t + 1) (2 * (c .loop-i .i + 1)) (omega arith) (omega arith) one (c .step-two .ensures .value) (c .step-two .ensures .after)
 
 pub returns : need.returns
 returns c =
-    let all = running-all (2 * c .loop-i .i) (omega arith) (c .loop-i .inv) in
-    let done : 2 * c .loop-i .i ≡ 48 = omega arith in
+    let M = take 16 (c .args .w .now) in
+    let H = c .args .hash in
+    let at8 = c .eight-steps-at8 .ensures M H (running-none H (c .args .w .now) (c .told-w)) in
+    let at16 = c .eight-steps-at16 .ensures M H at8 in
+    let at24 = c .eight-steps-at24 .ensures M H at16 in
+    let at32 = c .eight-steps-at32 .ensures M H at24 in
+    let at40 = c .eight-steps-at40 .ensures M H at32 in
+    let at48 = c .eight-steps .ensures M H at40 in
+    let all = running-all 48 (omega arith) at48 in
     record {
-      value = c .loop-i .inv .turned ∙ λ i. rounds (sym all i) (c .args .hash) (done i);
+      value = at48 .turned ∙ ap (λ (x : List ℕ). rounds x H 48) (sym all);
       after = all;
     }
