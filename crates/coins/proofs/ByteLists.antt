@@ -6,8 +6,8 @@ use native.Mathlib.Numerals.{add-one}
 use native.Mathlib.Omega.{arith}
 use lib.ListN.{length}
 use Rattle.std.proofs.shelf.Tests.{lt-ltb}
-use Rattle.coins.specs.Bits.{bit}
-use Rattle.coins.specs.Bytes.{all-bits, byte-behind, byte-bits, last-bits}
+use Rattle.coins.specs.Bits.{bit-of}
+use Rattle.coins.specs.Bytes.{all-bits, bit-behind, byte-behind, byte-bits, last-bits}
 
 pub last-bits-length : (bs : List ℕ) (n : ℕ) → length (last-bits bs n) ≡ n
 unfolding last-bits
@@ -18,7 +18,7 @@ pub last-bits-none : (bs : List ℕ) (n : ℕ) → n ≡ 0 → last-bits bs n �
 unfolding last-bits
 last-bits-none bs n e = rw e refl
 
-pub last-bits-more : (bs : List ℕ) (n m : ℕ) → n ≡ m + 1 → last-bits bs n ≡ bit (byte-behind bs (m / 8)) (m % 8) ∷ last-bits bs m
+pub last-bits-more : (bs : List ℕ) (n m : ℕ) → n ≡ m + 1 → last-bits bs n ≡ bit-behind bs m ∷ last-bits bs m
 unfolding last-bits
 last-bits-more bs n m e = rw (e, add-one m) refl
 
@@ -33,6 +33,7 @@ first-behind b bs =
     let e : suc (length bs) - 1 - length bs ≡ 0 = omega arith in
     rw (lt-ltb (length bs) (suc (length bs)) (omega arith), e) refl
 
+-- and so no bit behind it
 last-bits-front : (b : ℕ) (bs : List ℕ) (n : ℕ) → n ≤ 8 * length bs → last-bits (b ∷ bs) n ≡ last-bits bs n
 unfolding last-bits
 last-bits-front b bs zero within = refl
@@ -42,8 +43,8 @@ last-bits-front b bs (suc n) within =
     cc
 
 -- the bit with 8 j + k bits behind it is bit k of the byte with j bytes behind it
-step : (b : ℕ) (bs : List ℕ) (k : ℕ) → k < 8 → last-bits (b ∷ bs) (8 * length bs + suc k) ≡ bit b k ∷ last-bits (b ∷ bs) (8 * length bs + k)
-step b bs k within =
+first-byte-step : (b : ℕ) (bs : List ℕ) (k : ℕ) → k < 8 → last-bits (b ∷ bs) (8 * length bs + suc k) ≡ bit-of b k ∷ last-bits (b ∷ bs) (8 * length bs + k)
+first-byte-step b bs k within =
     let m : ℕ = 8 * length bs + k in
     let q : m / 8 ≡ length bs = omega arith in
     let r : m % 8 ≡ k = omega arith in
@@ -51,16 +52,17 @@ step b bs k within =
     let e = last-bits-more (b ∷ bs) (8 * length bs + suc k) m (omega arith) in
     e ∙ rw (q, r, f) refl
 
+-- the bits of the first byte, then those of the others
 first-byte : (b : ℕ) (bs : List ℕ) → last-bits (b ∷ bs) (8 * length bs + 8) ≡ byte-bits b ++ last-bits (b ∷ bs) (8 * length bs)
 first-byte b bs =
-    let e7 = step b bs 7 (omega arith) in
-    let e6 = step b bs 6 (omega arith) in
-    let e5 = step b bs 5 (omega arith) in
-    let e4 = step b bs 4 (omega arith) in
-    let e3 = step b bs 3 (omega arith) in
-    let e2 = step b bs 2 (omega arith) in
-    let e1 = step b bs 1 (omega arith) in
-    let e0 = step b bs 0 (omega arith) in
+    let e7 = first-byte-step b bs 7 (omega arith) in
+    let e6 = first-byte-step b bs 6 (omega arith) in
+    let e5 = first-byte-step b bs 5 (omega arith) in
+    let e4 = first-byte-step b bs 4 (omega arith) in
+    let e3 = first-byte-step b bs 3 (omega arith) in
+    let e2 = first-byte-step b bs 2 (omega arith) in
+    let e1 = first-byte-step b bs 1 (omega arith) in
+    let e0 = first-byte-step b bs 0 (omega arith) in
     let z : 8 * length bs + 0 ≡ 8 * length bs = omega arith in
     cc
 

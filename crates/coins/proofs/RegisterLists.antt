@@ -1,17 +1,16 @@
 -- The list of a register coin: its length, its first bit and what is behind it; and the arithmetic of the register.
-use mathlib.Core.Path.{_≡_, refl, sym, ap, _∙_}
+use mathlib.Core.Path.{_≡_, refl, ap}
 use mathlib.Core.List.{[], _∷_}
 use mathlib.Core.Logic.{inl, inr}
 use Prim.Native.Nat.{ℕ, zero, suc, _+_, _*_, _/_, _%_, _^_, _<_, _≤_}
 use native.Mathlib.Nat.{add-comm}
 use native.Mathlib.Numerals.{add-one}
 use native.Mathlib.Omega.{arith}
-use lib.Bits.{bitAnd, bitOr, bitXor}
+use lib.Bits.{bitOr}
 use lib.ListN.{length}
-use Rattle.std.proofs.shelf.Bits.{mod-below, or-comm, or-shifted, xor-lt, xor-mod}
+use Rattle.std.proofs.shelf.Bits.{mod-below, or-comm, or-shifted, xor-lt}
 use Rattle.std.proofs.shelf.Tests.{cases-eq}
-use Rattle.coins.proofs.Tosses.{lowest}
-use Rattle.coins.specs.Bits.{bit}
+use Rattle.coins.specs.Bits.{bit-of}
 use Rattle.coins.specs.Register.{feedback-of, next-register, register-bits}
 
 pub register-bits-length : (r n : ℕ) → length (register-bits r n) ≡ n
@@ -23,26 +22,15 @@ pub register-bits-none : (r n : ℕ) → n ≡ 0 → register-bits r n ≡ []
 unfolding register-bits
 register-bits-none r n e = rw e refl
 
-pub register-bits-more : (r q n m : ℕ) → q ≡ next-register r → n ≡ m + 1 → register-bits r n ≡ bit r 0 ∷ register-bits q m
+pub register-bits-more : (r q n m : ℕ) → q ≡ next-register r → n ≡ m + 1 → register-bits r n ≡ bit-of r 0 ∷ register-bits q m
 unfolding register-bits
 register-bits-more r q n m next e = rw (e, add-one m, next) refl
-
-pub lowest-bit : (r : ℕ) → bitAnd r 1 ≡ bit r 0
-lowest-bit r = let z : bit r 0 ≡ r % 2 = omega arith in lowest r ∙ sym z
-
-pub feedback-is : (r : ℕ) → bitAnd (bitXor (bitXor (bitXor r (r / 4)) (r / 8)) (r / 32)) 1 ≡ feedback-of r
-feedback-is r =
-    let z : bit r 0 ≡ r % 2 = omega arith in
-    let a = lowest (bitXor (bitXor (bitXor r (r / 4)) (r / 8)) (r / 32)) in
-    let x = xor-mod (bitXor (bitXor r (r / 4)) (r / 8)) (r / 32) 1 in
-    let y = xor-mod (bitXor r (r / 4)) (r / 8) 1 in
-    let w = xor-mod r (r / 4) 1 in
-    cc
 
 feedback-below : (r : ℕ) → feedback-of r < 2
 feedback-below r =
     xor-lt 1 _ _ (xor-lt 1 _ _ (xor-lt 1 _ _ (mod-below (r / 2 ^ 0) 2 (omega arith)) (mod-below (r / 2 ^ 2) 2 (omega arith))) (mod-below (r / 2 ^ 3) 2 (omega arith))) (mod-below (r / 2 ^ 5) 2 (omega arith))
 
+-- the code's shifts and masks are the sum of the rule
 pub next-is : (r f : ℕ) → r < 65536 → f ≡ feedback-of r → bitOr (r / 2) (f * 32768 % 65536) ≡ next-register r
 next-is r f within e =
     let b : f < 2 = rw e (feedback-below r) in

@@ -1,14 +1,9 @@
--- What a toss does to a list of bits, and the lowest bit of a number.
+-- What a toss does to a list of bits.
 use mathlib.Core.Path.{_≡_, refl}
 use mathlib.Core.List.{List, [], _∷_}
-use Prim.Native.Nat.{ℕ, _%_}
+use Prim.Native.Nat.{ℕ}
 use native.Mathlib.Omega.{arith}
-use lib.Bits.{bitAnd}
-use Rattle.std.proofs.shelf.Bits.{and-mask}
 use Rattle.coins.specs.Bits.{bits-after, first-bit}
-
-pub lowest : (n : ℕ) → bitAnd n 1 ≡ n % 2
-lowest n = and-mask n 1
 
 -- no bit is left
 pub first-none : (bits : List ℕ) → bits ≡ [] → 0 ≡ first-bit bits

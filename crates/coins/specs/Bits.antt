@@ -3,8 +3,8 @@ use mathlib.Core.List.{List, [], _∷_}
 use Prim.Native.Nat.{ℕ, _/_, _%_, _^_}
 
 -- bit j of a number, from the lowest
-abbrev pub bit : ℕ → ℕ → ℕ
-bit n j = n / 2 ^ j % 2
+abbrev pub bit-of : ℕ → ℕ → ℕ
+bit-of n j = n / 2 ^ j % 2
 
 -- the first bit; 0 where none is left
 abbrev pub first-bit : List ℕ → ℕ

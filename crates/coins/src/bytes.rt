@@ -1,8 +1,9 @@
 // A coin over bytes that are lent to it.
 ghost use mathlib.Core.Path.{_≡_};
 ghost use Rattle.settings.specs.Refusals.{told};
-ghost use Rattle.coins.specs.Bytes.{byte-behind, byte-coin-answer, byte-coin-bits};
+ghost use Rattle.coins.specs.Bytes.{bit-behind, byte-behind, byte-coin-answer, byte-coin-bits};
 use crate::Coin;
+use crate::bits::bit;
 use settings::Refusal;
 
 const MOST_BYTES: usize = 4096;
@@ -28,8 +29,16 @@ impl<'a> ByteCoin<'a> {
     }
 }
 
+// The bit with so many bits behind it.
+fn bit_behind(bytes: &[u8], count: u16) -> u8
+    ensures { λ r. ⌜ r ≡ bit-behind (now (bytes .entry)) count ⌝ }
+{
+    let byte = byte_behind(bytes, usize::from(count / 8));
+    bit(u16::from(byte), count % 8)
+}
+
 // The byte with so many bytes behind it, or 0 where there is none.
-fn behind(bytes: &[u8], count: usize) -> u8
+fn byte_behind(bytes: &[u8], count: usize) -> u8
     ensures { λ r. ⌜ r ≡ byte-behind (now (bytes .entry)) count ⌝ }
 {
     if count < bytes.len() {
@@ -47,8 +56,7 @@ pub impl Coin for ByteCoin<'_> as ByteCoinCoin {
             return 0;
         }
         self.left -= 1;
-        let byte = behind(self.bytes, usize::from(self.left / 8));
-        (byte >> (self.left % 8)) & 1
+        bit_behind(self.bytes, self.left)
     }
 
     fn left(&self) -> usize {

@@ -1,4 +1,5 @@
 // Coins: where a cabin takes its random bits from.
+mod bits;
 mod bytes;
 mod coin;
 mod register;

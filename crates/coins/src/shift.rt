@@ -2,12 +2,13 @@
 ghost use mathlib.Core.Path.{_≡_};
 ghost use Prim.Native.Nat.{_≤_};
 ghost use Rattle.coins.specs.Register.{feedback-of, next-register};
+use crate::bits::bit;
 
 // The bit that enters: the exclusive or of bits 0, 2, 3 and 5.
-fn feedback(register: u16) -> u16
+fn feedback(register: u16) -> u8
     ensures { λ r. ⌜ r ≡ feedback-of register ⌝ }
 {
-    (register ^ (register >> 2) ^ (register >> 3) ^ (register >> 5)) & 1
+    bit(register, 0) ^ bit(register, 2) ^ bit(register, 3) ^ bit(register, 5)
 }
 
 // The register after one bit: shifted right by one, with the feedback as bit 15.
@@ -15,5 +16,5 @@ pub(crate) fn shifted(register: u16) -> u16
     ensures value { λ r. ⌜ r ≡ next-register register ⌝ }
     ensures live { λ r. ⌜ (1 ≤ register → 1 ≤ r) ⌝ }
 {
-    (register >> 1) | (feedback(register) << 15)
+    (register >> 1) | (u16::from(feedback(register)) << 15)
 }

@@ -19,6 +19,7 @@ use Rattle.packets.specs.Packets.{is-last, packet-lawful, places-in, read-answ
 use Rattle.packets.specs.Records.{fields-answer, head-bytes, record-bytes}
 use Rattle.packets.specs.declared.record.Fields.{Fields}
 
+-- the word is what follows the first 8 bytes of its record
 word-of-record : (p : List ℕ) (k : ℕ) → word-at p k ≡ drop 8 (record-at p k)
 word-of-record p k =
     let a : ℕ = k * 40 in
@@ -51,6 +52,7 @@ parts-written p h hs w ws k within head word eight whole =
     let all = paste-all p a (hs ++ ws) 40 (simp length-append (omega arith)) in
     ap (λ (x : List ℕ). putMid (a + 8) (a + 40 - (a + 8)) x w) m ∙ (n ∙ (q ∙ all))
 
+-- a write as the prover sees it
 written-is : (p bs : List ℕ) (k : ℕ) → written p k bs ≡ putMid (k * 40) 40 p bs
 written-is p bs k = ap (λ (x : List ℕ). take (k * 40) p ++ (bs ++ x)) (sym (drop-drop 40 (k * 40) p))
 

@@ -4,6 +4,7 @@ ghost use Rattle.settings.specs.Refusals.{told};
 ghost use Rattle.coins.specs.Register.{register-coin-answer, register-coin-bits};
 use crate::Coin;
 use crate::RegisterCoin;
+use crate::bits::bit;
 use crate::shift;
 use settings::Refusal;
 
@@ -32,10 +33,10 @@ pub impl Coin for RegisterCoin as RegisterCoinCoin {
         if self.left == 0 {
             return 0;
         }
-        let bit = self.register & 1;
+        let answer = bit(self.register, 0);
         self.register = shift::shifted(self.register);
         self.left -= 1;
-        bit as u8
+        answer
     }
 
     fn left(&self) -> usize {

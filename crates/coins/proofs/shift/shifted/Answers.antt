@@ -1,4 +1,4 @@
-use mathlib.Core.Path.{sym, subst}
+use mathlib.Core.Path.{sym, subst, _∙_}
 use Prim.Native.Nat.{ℕ, _≤_}
 use native.Mathlib.Omega.{arith}
 use Rattle.coins.proofs.RegisterLists.{next-is, next-live}
@@ -6,5 +6,5 @@ use Rattle.coins.proofs.shift.shifted.Needs as need
 
 pub returns : need.returns
 returns c =
-    let e = next-is (c .args .register) (c .feedback .result) (omega arith) (c .feedback .ensures) in
+    let e = next-is (c .args .register) (c .from .result) (omega arith) (c .from .ensures ∙ c .feedback .ensures) in
     record { value = e; live = λ live. subst (λ (x : ℕ). 1 ≤ x) (sym e) (next-live (c .args .register) live) }

@@ -1,7 +1,7 @@
 use mathlib.Core.Path.{refl}
 use Prim.Native.Nat.{_-_}
 use native.Mathlib.Omega.{arith}
-use Rattle.coins.proofs.RegisterLists.{lowest-bit, register-bits-more, register-bits-none}
+use Rattle.coins.proofs.RegisterLists.{register-bits-more, register-bits-none}
 use Rattle.coins.proofs.Tosses.{after-more, after-none, first-more, first-none, not-none}
 use Rattle.coins.proofs.register.methods.RegisterCoinCoin.toss.Needs as need
 
@@ -13,10 +13,9 @@ returns-then-self-eq0 c =
 pub returns : need.returns
 returns c =
     let e = register-bits-more (c .args .self .now .register) (c .shifted-self .result) (c .args .self .now .left) (c .args .self .now .left - 1) (c .shifted-self .ensures .value) (omega arith) in
-    let r = lowest-bit (c .args .self .now .register) in
     record {
-      value = first-more _ _ _ _ e r;
-      bound = omega (arith, r);
+      value = first-more _ _ _ _ e (c .bit-answer .ensures);
+      bound = omega arith;
       after = after-more _ _ _ e;
       spent = λ none. absurd (not-none _ _ _ e none);
     }
