@@ -1,4 +1,4 @@
-// vectors: hashes published messages, and says of each digest whether it is the published one.
+// vectors: hashes known messages, and says of each digest whether it is the one that the table expects.
 mod digits;
 mod table;
 mod vector;

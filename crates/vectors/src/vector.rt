@@ -1,4 +1,4 @@
-// A published message and its digest.
+// A message and its expected digest.
 ghost use mathlib.Core.Path.{_≡_};
 ghost use Rattle.std.specs.Of.String.{string-bytes};
 ghost use Rattle.std.specs.Vec.{made};
@@ -10,7 +10,7 @@ use std::alloc::AllocError;
 use std::alloc::Global;
 use words::sha256;
 
-// The message is a text, so many times; the published digest is in hex.
+// The message is a text, so many times; the expected digest is in hex.
 #[derive(Clone, Copy)]
 pub(crate) struct Vector {
     pub(crate) name: &'static str,

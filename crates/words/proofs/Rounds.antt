@@ -1,4 +1,4 @@
--- The steps of the loops over the rounds, and what they leave.
+-- One more round, and what the rounds leave.
 -- Assumes nothing.
 use mathlib.Core.List.{List}
 use mathlib.Core.Logic.{inl, inr}
