@@ -25,17 +25,18 @@ pub record Unanimous (hall : Hall) (ever : Table) (ψ v : ℕ) : Type 0 where
   pub few : count others (hall .cabins) ≤ hall .faults
   pub rest : (j w : ℕ) → ever ψ j w ≡ true → (w ≡ v → ⊥) → others j ≡ true
 
--- The first law of a book: where at most f cabins ever held anything but v in a CONVERGE phase, no other LOCK value and no
--- preference was ever supported in that cycle.
+-- The first law of a book: after a unanimous CONVERGE phase its cycle supports one LOCK value, the unanimous one, and never
+-- no preference.
 pub record First-law (hall : Hall) : Type 0 where
   pub lock : (ever : Table) (ψ v w : ℕ) → Filled hall ever → Unanimous hall ever ψ v → Once ever (λ t. hall .book .lock t (ψ + 1) w) → w ≡ v
   pub no-preference : (ever : Table) (ψ v : ℕ) → Filled hall ever → Unanimous hall ever ψ v → Once ever (λ t. hall .book .no-preference t (ψ + 2)) → ⊥
 
--- The first law, of undecided: nor was undecided ever supported in the next cycle.
+-- The first law, of undecided: the cycle after it supports no undecided record.
 pub record First-law-undecided (hall : Hall) : Type 0 where
   pub undecided : (ever : Table) (ψ v φ : ℕ) → Filled hall ever → Unanimous hall ever ψ v → ψ + 3 ≤ φ → φ ≤ ψ + 5 → Once ever (λ t. hall .book .undecided t φ) → ⊥
 
--- The second law of a book: it picks a course, and a table supports in LOCK what is picked from a quorum in CONVERGE.
+-- The second law of a book: what it picks is a course, and a pick made with a quorum in CONVERGE holds in the LOCK phase
+-- that follows.
 pub record Second-law (hall : Hall) : Type 0 where
   pub course : (t : Table) (ψ : ℕ) → hall .book .pick t ψ < hall .book .courses
   pub lock : (ever t : Table) (ψ : ℕ) → Filled hall ever → Within t ever → ψ % 3 ≡ 1 → Quorum-in hall t ψ → hall .book .lock t (ψ + 1) (hall .book .pick t ψ) ≡ true

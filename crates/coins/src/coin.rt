@@ -11,7 +11,7 @@ pub trait Coin {
     // the bits still to come, in their order
     ghost bits: { Self → List ℕ };
 
-    // Answers the first bit and removes it. With no bit left it answers 0, and nothing changes.
+    // Takes the next bit. A coin that has run out gives 0 and stays as it is.
     fn toss(&mut self) -> u8
         ensures value { λ r. ⌜ r ≡ first-bit (bits (now (self .entry))) ⌝ }
         ensures bound { λ r. ⌜ r ≤ 1 ⌝ }

@@ -58,7 +58,7 @@ fn taps() -> Result<(), Fail> {
     Ok(())
 }
 
-// Register 1 answers 1, 0, 0, 0 and then holds 1000h, whose own bits follow.
+// From register 1 come the bits 1, 0, 0, 0; it is then 1000h, whose own bits follow.
 #[test]
 fn register_1() -> Result<(), Fail> {
     check_eq(shifted(shifted(shifted(shifted(1)))), 0x1000)?;

@@ -15,8 +15,8 @@ use crate::record;
 use settings::Refusal;
 use settings::Settings;
 
-// A record of a packet. The last one is the announcement, and those before it are its support.
-// The word is a part of the packet.
+// A record of a packet: what its sender announces, at the end, or a record of support before that.
+// The word lies in the packet; it is not copied.
 #[derive(Clone, Copy, Debug)]
 pub enum Reading<'a> {
     Support { fields: Fields, word: &'a [u8] },

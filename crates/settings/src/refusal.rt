@@ -18,7 +18,7 @@ pub enum Refusal {
     TableSize = 5,
     // a list or own words of a wrong length, or a sealer with another last phase
     WordsSize = 6,
-    // an own word that its list would not pass
+    // an own word that does not pass its list
     OwnWord = 7,
     // a buffer too short for a packet
     BufferSize = 8,

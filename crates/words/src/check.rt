@@ -5,7 +5,8 @@ ghost use mathlib.Core.List.{List};
 ghost use mathlib.Core.Path.{_≡_};
 ghost use Prim.Native.Nat.{ℕ};
 
-// A word check means a fixed yes or no for each cabin, phase, value and word. Asking it changes nothing.
+// A word check tells whether a word belongs to a cabin, a phase and a value. What it tells is fixed when the check is made,
+// and asking leaves no trace.
 pub trait WordCheck {
     // the meaning: yes or no for a cabin, a phase, a value and a word
     ghost answers: { Self → ℕ → ℕ → ℕ → List ℕ → Bool };

@@ -8,7 +8,7 @@ ghost use Rattle.words.specs.Checks.{in-range};
 ghost use Rattle.words.specs.Words.{zero-word};
 use crate::WordCheck;
 
-// A sealer is a word check that can also seal for one cabin: it gives the words that its own check passes.
+// A sealer has the words of one cabin to give, and is itself a check that those words pass.
 pub trait Sealer: WordCheck {
     // the cabin that it seals for
     ghost owner: { Self → ℕ };
