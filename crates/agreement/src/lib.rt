@@ -1,4 +1,6 @@
 // Why a hall agrees: the argument over an abstract history, and what a host may conclude from it.
+#![tactic(auto)]
+
 ghost use Rattle.std.specs.Prelude.{◌≡◌, ℕ, ◌+◌, ◌<◌};
 ghost use Rattle.agreement.specs.Agreement.{DecisionsAgree, OneChoiceDecides, compatible};
 ghost use Rattle.agreement.specs.TwoWay.{TwoWayLawful, two_way};

@@ -1,4 +1,6 @@
 // A cabin of a hall: its table, which the host lends it, and its calls.
+#![tactic(auto)]
+
 mod cabin;
 mod place;
 mod table;

@@ -1,4 +1,6 @@
 // A cabin of a hall and its calls: open, announce and hear. Its table stays with the host, who lends it to each call.
+#![tactic(auto)]
+
 mod cabin;
 mod records;
 mod tally;

@@ -1,4 +1,6 @@
 // Coins: where a cabin takes its random bits from.
+#![tactic(auto)]
+
 mod bits;
 mod bytes;
 mod coin;

@@ -1,4 +1,6 @@
 // Worked examples of the rules, and runs in which a hall decides, shown over the definitions that the calls meet.
+#![tactic(auto)]
+
 ghost use Rattle.std.specs.Prelude.{◌≡◌, ℕ, ◌<◌};
 ghost use Rattle.examples.specs.Examples.{Examples};
 ghost use Rattle.examples.specs.Witness.{Witness};

@@ -1,4 +1,6 @@
 // The calls that a static library offers to C and Rust.
+#![tactic(auto)]
+
 ghost use Rattle.std.specs.Prelude.{◌≡◌};
 ghost use Rattle.words.specs.Computation.{sha_256};
 

@@ -1,4 +1,6 @@
 // hall: plays the rehearsal on standard input, and prints a line for each of its steps.
+#![tactic(auto)]
+
 use rehearsal::transcript;
 use std::io::Read;
 

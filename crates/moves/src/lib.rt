@@ -1,4 +1,6 @@
 // What a cabin's calls do, over a plain state: their definitions, how a record is judged, and how a cabin moves.
+#![tactic(auto)]
+
 mod fault;
 mod judging;
 mod moving;

@@ -1,4 +1,6 @@
 // The bytes on the air: records of 40 bytes, and packets of them.
+#![tactic(auto)]
+
 mod format;
 mod packet;
 mod record;

@@ -1,4 +1,6 @@
 // Rehearsals: steps of eight bytes are played on a hall of four cabins, and each step gives one line of text.
+#![tactic(auto)]
+
 mod answer;
 mod claim;
 mod fixed;

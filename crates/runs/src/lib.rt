@@ -1,4 +1,6 @@
 // Whole runs of a hall, and the laws that hold after every call of every run.
+#![tactic(auto)]
+
 ghost use Rattle.std.specs.Prelude.{◌≡◌};
 ghost use Rattle.runs.specs.Laws.{HallAgrees};
 

@@ -1,4 +1,6 @@
 // samples: plays the rehearsals in its data folder, and prints the name of each and a line for each of its steps.
+#![tactic(auto)]
+
 use rehearsal_next::transcript;
 use std::fs;
 

@@ -1,4 +1,6 @@
 // What a hall agrees on before it opens: its settings, the kinds of a phase, the status of a record, and the refusals.
+#![tactic(auto)]
+
 mod kind;
 mod refusal;
 mod settings;

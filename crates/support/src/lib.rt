@@ -1,4 +1,6 @@
 // The support of an announcement: which records of the table go out beside it.
+#![tactic(auto)]
+
 mod choice;
 mod chosen;
 mod support;

@@ -1,4 +1,6 @@
 // A cabin's table: its places, the counts over them, and the three rules that a record must meet.
+#![tactic(auto)]
+
 mod counts;
 mod layout;
 mod place;

@@ -1,4 +1,6 @@
 // vectors: hashes known messages, and says of each digest whether it is the one that the table expects.
+#![tactic(auto)]
+
 mod digits;
 mod table;
 mod vector;

@@ -1,4 +1,6 @@
 // Words: SHA-256, the checks that a word passes or not, and the sealers that give words.
+#![tactic(auto)]
+
 mod check;
 mod compare;
 mod hashed;
