@@ -4,4 +4,4 @@ use Rattle.rehearsal.proofs.hall.Hall.new.Given as goal
 
 -- as many seats as turns, none of them open
 abbrev pub invariant-loop-number : goal.invariant-loop-number
-invariant-loop-number l = map seat_view (vec_items l.seats) ≡ replicate l.-number (closed_seat l.settings)
+invariant-loop-number l = map seat_view (vec_items l.seats) ≡ replicate l._number (closed_seat l.settings)
