@@ -1,10 +1,11 @@
 -- What the rules say of a valid record, phase by phase.
 use Rattle.std.proofs.Common.{◌≡◌, ℕ, ◌-◌, ◌%◌, ◌<◌, ◌≤◌, true, ◌&&◌, ◌||◌, eqb, ltb, leb, ◌⊎◌, refl, subst, inl, inr, arith}
 use Rattle.std.proofs.lemmas.Bool.{and_parts, and_from, or_cases, leb-true, ltb-true, eqb-true, eq-eqb, ne_eqb}
+use Rattle.std.proofs.lemmas.Bool.Decides.{nat_tests}
 use Rattle.settings.specs.Kinds.{kind_of}
 use Rattle.settings.specs.declared.kind.PhaseKind.{PhaseKind}
 use Rattle.settings.specs.declared.kind.PhaseKind.TheVariants.{Converge, Lock, Decide}
-use Rattle.agreement.specs.Rules.{Hall, QuorumFor, Table, has_quorum, is_lawful, is_valid, phase_rule, value_rule, value_rule_in}
+use Rattle.agreement.specs.Rules.{Hall, QuorumFor, Table, is_lawful, is_valid, phase_rule, value_rule, value_rule_in}
 
 pub kind_converge : (φ : ℕ) → φ % 3 ≡ 1 → kind_of φ ≡ Converge
 kind_converge φ e = rw (eq-eqb (φ % 3) 1 e)
@@ -71,9 +72,5 @@ valid_no_preference hall t φ e ok =
 -- in a later CONVERGE the value has a quorum two phases before, or no preference has one in the phase before
 pub valid_converge : (hall : Hall) (t : Table) (φ v : ℕ) → φ % 3 ≡ 1 → (φ ≡ 1 → ⊥) → is_valid hall t φ v ≡ true → QuorumFor hall t (φ - 2) v ⊎ QuorumFor hall t (φ - 1) hall.book.courses
 valid_converge hall t φ v e later ok =
-    let m = hall.book.courses in
     let backed = rw (ne_eqb φ 1 later) at (rule_in hall t φ v Converge (kind_converge φ e) ok) in
-    elim (or_cases (has_quorum hall t (φ - 2) v) (has_quorum hall t (φ - 1) m) backed) [
-      | inl locked ↦ inl (leb-true _ _ locked)
-      | inr none ↦ inr (leb-true _ _ none)
-    ]
+    grind (arith, nat_tests)

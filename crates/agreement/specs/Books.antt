@@ -21,7 +21,7 @@ pub record Unanimous (hall : Hall) (ever : Table) (ψ v : ℕ) : Type 0 where
   pub converge : ψ % 3 ≡ 1
   pub others : ℕ → Bool
   pub few : count others hall.cabins ≤ hall.faults
-  pub rest : (j w : ℕ) → ever ψ j w ≡ true → (w ≢ v) → others j ≡ true
+  pub rest : (j w : ℕ) → ever ψ j w ≡ true → w ≢ v → others j ≡ true
 
 -- The first law of a book: after a unanimous CONVERGE phase its cycle supports one LOCK value, the unanimous one, and never
 -- no preference.

@@ -46,6 +46,7 @@ pub fn caught_up_by(phase: u16) -> u32
 
 // The number of courses under the two-way rules. These rules keep both laws of a rule book, and each course can be
 // decided.
+#[tactic(auto, unfolding(crate::specs::TwoWay::two_way))]
 pub fn two_way_courses() -> u8
     ensures value { (n f : ℕ) → result ≡ (two_way n f).courses }
     ensures lawful { TwoWayLawful }

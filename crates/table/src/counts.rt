@@ -34,6 +34,7 @@ pub fn turnout(settings: &Settings, table: &[Place], phase: u16) -> u8
 }
 
 // Whether a cabin has any filled place at a phase.
+#[tactic(auto, unfolding(agreement::specs::Counting::some))]
 fn speaks(settings: &Settings, table: &[Place], phase: u16, cabin: u8) -> bool
     ensures { result ≡ some (records_of settings.now table.now phase cabin) 3 }
 {

@@ -24,6 +24,7 @@ pub fn place_of(settings: &Settings, phase: u16, cabin: u8, value: u8) -> Option
 }
 
 // Whether a table has a record for a phase of a cabin with a value.
+#[tactic(auto, unfolding(crate::specs::Places::records_at))]
 pub fn is_filled(settings: &Settings, table: &[Place], phase: u16, cabin: u8, value: u8) -> bool
     ensures { result ≡ records_of settings.now table.now phase cabin value }
 {

@@ -17,6 +17,7 @@ pub fn phase_rule(settings: &Settings, table: &[Place], phase: u16) -> bool
 }
 
 // The value rule, by the kind of the phase.
+#[tactic(auto, unfolding(agreement::specs::TwoWay::two_way))]
 pub fn value_rule(settings: &Settings, table: &[Place], phase: u16, value: u8) -> bool
     ensures { result ≡ meets_value settings.now (records_of settings.now table.now) phase value }
 {
@@ -40,6 +41,7 @@ pub fn value_rule(settings: &Settings, table: &[Place], phase: u16, value: u8) -
 }
 
 // The status rule: undecided in the first cycle; later by the last DECIDE or the last LOCK phase.
+#[tactic(auto, unfolding(agreement::specs::TwoWay::two_way))]
 pub fn status_rule(
     settings: &Settings,
     table: &[Place],
