@@ -7,14 +7,14 @@ pub loop-place-init : goal.loop-place-init
 loop-place-init g c =
     (omega arith, heard_none (g.W.WordCheck.answers c.args.check.now) c.args.state.now c.args.table.now c.args.packet.now c.new-tally.result c.new-tally.ensures)
 
-pub hear-record-tally-requires : goal.hear-record-tally-requires
-hear-record-tally-requires g c =
+pub hear_record-tally-requires : goal.hear_record-tally-requires
+hear_record-tally-requires g c =
     let so_far = c.loop-place.invariant.1 in
     (omega (arith, so_far.kept), omega (arith, so_far.known), omega (arith, so_far.turned))
 
 pub loop-place-preserved : goal.loop-place-preserved
 loop-place-preserved g c =
-    (omega arith, heard_more (g.W.WordCheck.answers c.args.check.now) c.args.state.now c.args.table.now c.args.packet.now c.loop-place.place c.loop-place.tally c.hear-record-tally.result c.loop-place.table c.hear-record-tally.new.table c.loop-place.invariant.1 c.hear-record-tally.ensures.tally c.hear-record-tally.ensures.table)
+    (omega arith, heard_more (g.W.WordCheck.answers c.args.check.now) c.args.state.now c.args.table.now c.args.packet.now c.loop-place.place c.loop-place.tally c.hear_record-tally.result c.loop-place.table c.hear_record-tally.new.table c.loop-place.invariant.1 c.hear_record-tally.ensures.tally c.hear_record-tally.ensures.table)
 
 pub returns : goal.returns
 returns g c =

@@ -7,4 +7,4 @@ use Rattle.cabin_next.proofs.writing.write_support.Goals as goal
 pub loop-index-preserved : goal.loop-index-preserved
 loop-index-preserved c =
     let ks = support_places c.args.support.now in
-    (omega arith, written_more (λ j. copied c.args.state.now c.args.table.now (get_or ks j 0)) c.loop-index.index c.args.buffer.now c.loop-index.buffer c.write-supporting.new.buffer (copied c.args.state.now c.args.table.now (get_or ks c.loop-index.index 0)) c.loop-index.invariant.1 (omega (arith, support_few c.args.support.now)) c.write-supporting.ensures.whole refl c.write-supporting.ensures.after)
+    (omega arith, written_more (λ j. copied c.args.state.now c.args.table.now (get_or ks j 0)) c.loop-index.index c.args.buffer.now c.loop-index.buffer c.write_supporting.new.buffer (copied c.args.state.now c.args.table.now (get_or ks c.loop-index.index 0)) c.loop-index.invariant.1 (omega (arith, support_few c.args.support.now)) c.write_supporting.ensures.whole refl c.write_supporting.ensures.after)

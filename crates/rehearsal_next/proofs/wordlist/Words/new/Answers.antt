@@ -8,4 +8,4 @@ loop-place-init c = c.new-entries.ensures.items
 
 pub loop-place-preserved : goal.loop-place-preserved
 loop-place-preserved c =
-    words_more _ _ _ _ c.loop-place.invariant c.word-at.ensures c.in-ok-extend-from-slice.ensures.items
+    words_more _ _ _ _ c.loop-place.invariant c.word_at.ensures c.in_ok-extend_from_slice.ensures.items
