@@ -1,6 +1,6 @@
 -- What is asked of each pass that chooses records: tables as large as the largest hall's, of which every filled place is
 -- chosen. Assumes nothing.
-use Rattle.std.specs.Prelude.{◌≡◌, ℕ, ◌+◌, ◌-◌, ◌<◌, ◌≤◌, Bool, true, false, cond, List, length, set, Some, None, Option, slice_index, slice_index_or, slice_set}
+use Rattle.std.specs.Prelude.{◌≡◌, ℕ, ◌+◌, ◌-◌, ◌<◌, ◌≤◌, Bool, true, false, cond, List, length, Some, None, Option, slice_index, slice_index_or, slice_set}
 use Rattle.settings.specs.declared.settings.Settings.{Settings}
 use Rattle.agreement.specs.Books.{Within}
 use Rattle.agreement.specs.Counting.{count}

@@ -1,7 +1,7 @@
 use Rattle.std.proofs.Common.{◌∙◌, arith}
 use Rattle.support.proofs.Passing.{topped_none, topped_in, topped_out, topped_adds, topped_enough}
 use Rattle.support.proofs.chosen.top_up.Goals as goal
-use Rattle.support.proofs.chosen.top_up.Goals.{then-cabins-most+in-Some, then-cabins-most+in-default, else-cabins-most}
+use Rattle.support.proofs.chosen.top_up.Goals.{then-cabins-most+in-Some, then-cabins-most+in_default, else-cabins-most}
 
 pub loop-cabin-init : goal.loop-cabin-init
 loop-cabin-init c = topped_none _ _ _ _ _ _ c.requires c.turnout-cabins.ensures
@@ -10,7 +10,7 @@ pub loop-cabin-preserved : goal.loop-cabin-preserved
 loop-cabin-preserved c =
     elim c.if-cabins-most.branch [
       | then-cabins-most+in-Some w ↦ topped_in _ _ _ _ _ _ _ _ _ _ _ _ c.loop-cabin.invariant w.if-cabins-most.true (omega arith) w.in-Some.ensures (w.chosen-is ∙ w.copy.ensures) w.cabins-is
-      | then-cabins-most+in-default w ↦ topped_out _ _ _ _ _ _ _ _ _ _ _ c.loop-cabin.invariant (λ less. w.in-default.ensures) w.chosen-is w.cabins-is
+      | then-cabins-most+in_default w ↦ topped_out _ _ _ _ _ _ _ _ _ _ _ c.loop-cabin.invariant (λ less. w.in_default.ensures) w.chosen-is w.cabins-is
       | else-cabins-most w ↦ topped_out _ _ _ _ _ _ _ _ _ _ _ c.loop-cabin.invariant (λ less. absurd (omega (arith, w.if-cabins-most.false))) w.chosen-is w.cabins-is
     ]
 

@@ -10,8 +10,8 @@ loop-cabin-init c = counted_none _
 pub loop-cabin-preserved : goal.loop-cabin-preserved
 loop-cabin-preserved c =
     elim c.if-is_filled.branch [
-      | then-is_filled w ↦ counted_in _ _ _ _ c.loop-cabin.invariant w.if-is_filled.ensures w.cabins-is
-      | else-is_filled w ↦ counted_out _ _ _ _ c.loop-cabin.invariant w.if-is_filled.ensures w.cabins-is
+      | then-is_filled w ↦ search (counted_in, c.loop-cabin.invariant, w.if-is_filled.ensures, w.cabins-is)
+      | else-is_filled w ↦ search (counted_out, c.loop-cabin.invariant, w.if-is_filled.ensures, w.cabins-is)
     ]
 
 pub returns : goal.returns

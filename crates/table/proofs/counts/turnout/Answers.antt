@@ -11,8 +11,8 @@ loop-cabin-init c = counted_none _
 pub loop-cabin-preserved : goal.loop-cabin-preserved
 loop-cabin-preserved c =
     elim c.if-speaks.branch [
-      | then-speaks w ↦ counted_in _ _ _ _ c.loop-cabin.invariant w.if-speaks.ensures w.speakers-is
-      | else-speaks w ↦ counted_out _ _ _ _ c.loop-cabin.invariant w.if-speaks.ensures w.speakers-is
+      | then-speaks w ↦ search (counted_in, c.loop-cabin.invariant, w.if-speaks.ensures, w.speakers-is)
+      | else-speaks w ↦ search (counted_out, c.loop-cabin.invariant, w.if-speaks.ensures, w.speakers-is)
     ]
 
 pub returns : goal.returns
