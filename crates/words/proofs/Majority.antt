@@ -1,8 +1,9 @@
 -- Maj with one `and`: y ^ ((x ^ y) & (y ^ z)) is (x & y) ^ (x & z) ^ (y & z), at every width, by induction on the bits.
 -- Assumes nothing.
 use Rattle.std.proofs.Common.{◌≡◌, ℕ, zero, suc, ◌+◌, ◌*◌, ◌/◌, ◌%◌, ◌^◌, ◌<◌, sym, refl, ap, ◌∙◌, ap₂, pow-suc, div-add-mod', arith}
-use lib.Arith.{lt-one}
-use lib.Bits.{bit_and, bit_xor, and_shr, xor_shr, and_mod, xor_mod}
+use Rattle.std.proofs.Math.Arith.{lt-one}
+use Rattle.std.specs.Int.Bits.{bit_and, bit_xor}
+use Rattle.std.proofs.lemmas.Nat.{and_shr, xor_shr, and_mod, xor_mod}
 use Rattle.words.proofs.Choice.{bit}
 
 -- the two sides
