@@ -59,3 +59,8 @@ majority (suc k) x y z hx hy hz =
     ∙ sym (long_half x y z))
     (short_bit x y z ∙ same_bit x y z ∙ sym (long_bit x y z))
     ∙ div-add-mod' (long x y z) 2
+
+-- the same of words
+pub majority_32 : (x y z : ℕ) → x < 2 ^ 32 → y < 2 ^ 32 → z < 2 ^ 32
+    → bit_xor y (bit_and (bit_xor x y) (bit_xor y z)) ≡ bit_xor (bit_xor (bit_and x y) (bit_and x z)) (bit_and y z)
+majority_32 = majority 32
