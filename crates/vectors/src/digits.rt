@@ -5,6 +5,7 @@ ghost use Rattle.vectors.specs.Hex.{hex_digit, hex_text};
 use std::alloc::{AllocError, Global};
 
 // The bytes in hex: two digits for each, the higher first.
+#[tactic(auto, using(std::proofs::lemmas::List::append_assoc, crate::proofs::Writing::hex_more))]
 pub(crate) fn hex(heap: Global, bytes: &[u8]) -> Result<String, AllocError>
     ensures { IfOk result (λ t. string_bytes t ≡ hex_text bytes.now) }
 {

@@ -16,7 +16,7 @@ fn run(rt: &HostRuntime) -> anyhow::Result<()> {
     for vector in &VECTORS {
         let name = vector.name;
         let digest = vector.computed(rt.alloc())?;
-        if digest == vector.digest {
+        if digest.as_str() == vector.digest {
             agreed += 1;
             println!(rt; "{name}: {digest} agrees")?;
         } else {

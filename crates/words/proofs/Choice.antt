@@ -1,8 +1,9 @@
 -- Ch with one `and` less: z ^ (x & (y ^ z)) is (x & y) ^ (!x & z), at every width, by induction on the bits.
 -- Assumes nothing.
 use Rattle.std.proofs.Common.{◌≡◌, ℕ, zero, suc, ◌+◌, ◌-◌, ◌*◌, ◌/◌, ◌%◌, ◌^◌, ◌<◌, sym, refl, ap, ◌∙◌, subst, ap₂, inl, inr, pow-suc, div-add-mod', arith}
-use lib.Arith.{lt-one}
-use lib.Bits.{bit_and, bit_xor, and_shr, xor_shr, and_mod, xor_mod}
+use Rattle.std.proofs.Math.Arith.{lt-one}
+use Rattle.std.specs.Int.Bits.{bit_and, bit_xor}
+use Rattle.std.proofs.lemmas.Nat.{and_shr, xor_shr, and_mod, xor_mod}
 use Rattle.std.proofs.lemmas.Bool.{cases_eq}
 
 -- the two sides; n is the complement of x
@@ -54,3 +55,7 @@ choice (suc k) x y z hx hz =
     ∙ ap (λ (n : ℕ). long n (x / 2) (y / 2) (z / 2)) (sym half) ∙ sym (long_half (2 ^ suc k - 1 - x) x y z))
     (short_bit x y z ∙ same_bit x y z ∙ ap (λ (n : ℕ). long n (x % 2) (y % 2) (z % 2)) (sym low) ∙ sym (long_bit (2 ^ suc k - 1 - x) x y z))
     ∙ div-add-mod' (long (2 ^ suc k - 1 - x) x y z) 2
+
+-- the same of words
+pub choice_32 : (x y z : ℕ) → x < 2 ^ 32 → z < 2 ^ 32 → bit_xor z (bit_and x (bit_xor y z)) ≡ bit_xor (bit_and x y) (bit_and (2 ^ 32 - 1 - x) z)
+choice_32 = choice 32

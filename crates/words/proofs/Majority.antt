@@ -1,8 +1,9 @@
 -- Maj with one `and`: y ^ ((x ^ y) & (y ^ z)) is (x & y) ^ (x & z) ^ (y & z), at every width, by induction on the bits.
 -- Assumes nothing.
 use Rattle.std.proofs.Common.{◌≡◌, ℕ, zero, suc, ◌+◌, ◌*◌, ◌/◌, ◌%◌, ◌^◌, ◌<◌, sym, refl, ap, ◌∙◌, ap₂, pow-suc, div-add-mod', arith}
-use lib.Arith.{lt-one}
-use lib.Bits.{bit_and, bit_xor, and_shr, xor_shr, and_mod, xor_mod}
+use Rattle.std.proofs.Math.Arith.{lt-one}
+use Rattle.std.specs.Int.Bits.{bit_and, bit_xor}
+use Rattle.std.proofs.lemmas.Nat.{and_shr, xor_shr, and_mod, xor_mod}
 use Rattle.words.proofs.Choice.{bit}
 
 -- the two sides
@@ -58,3 +59,8 @@ majority (suc k) x y z hx hy hz =
     ∙ sym (long_half x y z))
     (short_bit x y z ∙ same_bit x y z ∙ sym (long_bit x y z))
     ∙ div-add-mod' (long x y z) 2
+
+-- the same of words
+pub majority_32 : (x y z : ℕ) → x < 2 ^ 32 → y < 2 ^ 32 → z < 2 ^ 32
+    → bit_xor y (bit_and (bit_xor x y) (bit_xor y z)) ≡ bit_xor (bit_xor (bit_and x y) (bit_and x z)) (bit_and y z)
+majority_32 = majority 32

@@ -2,7 +2,7 @@
 -- Assumes nothing.
 use Rattle.std.proofs.Common.{◌≡◌, ℕ, zero, suc, ◌+◌, ◌-◌, ◌*◌, ◌/◌, ◌%◌, ◌^◌, ◌<◌, ◌≤◌, List, [], ◌∷◌, ◌++◌, length, get_or, take, drop, set, replicate, sym, refl, ap, ◌∙◌, append_assoc, div-one, arith}
 use borrow.Rule.Slice.PartMut.{put_mid}
-use lib.Seq.{take-append-add}
+use Rattle.std.proofs.Math.Seq.{take-append-add}
 use Rattle.std.proofs.lemmas.List.{length-append, length-drop, length-replicate, length-take-le, drop-drop, drop-append-le, drop-replicate, flat_map_more, set_at, take_at, take_more, take-replicate}
 use Rattle.words.specs.Padding.{bytes, pad, zeros}
 use Rattle.words.specs.Computation.{digest}
@@ -67,14 +67,14 @@ padded front size n z k en ek l es =
     ∙ append_assoc front (0x80 ∷ replicate z 0) size
 
 -- the bytes after the last whole block, the byte 80h, zeros and the length: the last blocks of the padded message
-pub last_blocks : (m front out out' size : List ℕ) (n : ℕ) → front ≡ drop (64 * (length m / 64)) m
+pub last_blocks : (m front out out' out'' size : List ℕ) (n : ℕ) → front ≡ drop (64 * (length m / 64)) m
     → n ≡ length m % 64 + zeros (length m) + 9 → size ≡ bytes 8 (length m * 8 % 2 ^ 64)
-    → out ≡ written (replicate 128 0) 0 front → out' ≡ written (set out (length front) 0x80) (n - 8) size
-    → take n out' ≡ drop (64 * (length m / 64)) (pad m)
+    → out ≡ written (replicate 128 0) 0 front → out' ≡ set out (length front) 0x80 → out'' ≡ written out' (n - 8) size
+    → take n out'' ≡ drop (64 * (length m / 64)) (pad m)
 unfolding pad
-last_blocks m front out out' size n f en es eo eo' =
+last_blocks m front out out' out'' size n f en es eo eo' eo'' =
     let long : length front ≡ length m % 64 = omega (arith, ap length f, length-drop (64 * (length m / 64)) m) in
-    ap (take n) (eo' ∙ ap (λ (x : List ℕ). written (set x (length front) 0x80) (n - 8) size) eo)
+    ap (take n) (eo'' ∙ ap (λ (x : List ℕ). written x (n - 8) size) (eo' ∙ ap (λ (x : List ℕ). set x (length front) 0x80) eo))
     ∙ padded front size n (zeros (length m)) (127 - length m % 64) (omega arith) (omega arith) (omega arith) (ap length es)
     ∙ (λ i. f i ++ 0x80 ∷ (replicate (zeros (length m)) 0 ++ es i))
     ∙ sym (drop-append-le (64 * (length m / 64)) m _ (omega arith))

@@ -1,6 +1,6 @@
 -- The hash computation of SHA-256: FIPS 180-4, section 6.2.2.
 -- Assumes nothing.
-use Rattle.std.specs.Prelude.{ℕ, zero, suc, ◌-◌, ◌/◌, cond, List, [], ◌∷◌, ◌++◌, length, nat_lt, slice_index, slice_index_or}
+use Rattle.std.specs.Prelude.{ℕ, zero, suc, ◌-◌, ◌/◌, cond, List, [], ◌∷◌, ◌++◌, length, nat_lt, slice_index}
 use Rattle.std.specs.List.{flat_map}
 use Rattle.words.specs.Functions.{◌⊞◌, Ch, Maj, Σ0, Σ1, σ0, σ1}
 use Rattle.words.specs.Constants.{K, H⁰}
@@ -8,7 +8,7 @@ use Rattle.words.specs.Padding.{pad, block, words, bytes}
 
 -- step 1: word t of the message schedule from the words before it, where t is at least 16
 abbrev pub next_word : List ℕ → ℕ → ℕ
-next_word W t = σ1 (slice_index W (t - 2)) ⊞ slice_index_or W (t - 7) 0 ⊞ σ0 (slice_index W (t - 15)) ⊞ slice_index_or W (t - 16) 0
+next_word W t = σ1 (slice_index W (t - 2)) ⊞ slice_index W (t - 7) ⊞ σ0 (slice_index W (t - 15)) ⊞ slice_index W (t - 16)
 
 -- step 1: the first t words of the message schedule of the block of words M
 unfoldable pub schedule : List ℕ → ℕ → List ℕ
@@ -39,8 +39,8 @@ rounds W H (suc t) = round (rounds W H t) (K t) (slice_index W t)
 -- step 4: the working variables added to the hash value H
 unfoldable pub added : List ℕ → List ℕ → List ℕ
 added v H =
-    (slice_index_or v 0 0 ⊞ slice_index_or H 0 0) ∷ (slice_index_or v 1 0 ⊞ slice_index_or H 1 0) ∷ (slice_index_or v 2 0 ⊞ slice_index_or H 2 0) ∷ (slice_index_or v 3 0 ⊞ slice_index_or H 3 0)
-    ∷ (slice_index_or v 4 0 ⊞ slice_index_or H 4 0) ∷ (slice_index_or v 5 0 ⊞ slice_index_or H 5 0) ∷ (slice_index_or v 6 0 ⊞ slice_index_or H 6 0) ∷ (slice_index_or v 7 0 ⊞ slice_index_or H 7 0) ∷ []
+    (slice_index v 0 ⊞ slice_index H 0) ∷ (slice_index v 1 ⊞ slice_index H 1) ∷ (slice_index v 2 ⊞ slice_index H 2) ∷ (slice_index v 3 ⊞ slice_index H 3)
+    ∷ (slice_index v 4 ⊞ slice_index H 4) ∷ (slice_index v 5 ⊞ slice_index H 5) ∷ (slice_index v 6 ⊞ slice_index H 6) ∷ (slice_index v 7 ⊞ slice_index H 7) ∷ []
 
 -- the next hash value, from the hash value H and a block of bytes
 unfoldable pub compress : List ℕ → List ℕ → List ℕ

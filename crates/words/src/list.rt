@@ -82,6 +82,7 @@ impl<'a> WordList<'a> {
     }
 
     // Whether the list has an entry for the cabin, the phase and the value that is these bytes.
+    #[tactic(auto, unfolding(crate::specs::Checks::holds_entry))]
     pub(crate) fn holds(&self, cabin: u8, phase: u16, value: u8, bytes: &[u8]) -> bool
         ensures { result ≡ holds_entry (list_view self.now) cabin phase value bytes.now }
     {

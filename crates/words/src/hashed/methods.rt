@@ -11,6 +11,7 @@ use settings::{Refusal, Settings};
 
 impl<'a> HashedSealer<'a> {
     // The empty sealer: of cabin 0 with last phase 0. Its check passes no word.
+    #[tactic(auto, unfolding(crate::specs::Own::own_pass))]
     pub fn empty() -> HashedSealer<'a>
         ensures { hashed_sealer_view result ≡ empty_hashed }
     {

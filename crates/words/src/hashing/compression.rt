@@ -54,6 +54,7 @@ fn next_word(w: &[u32; 64], t: usize) -> u32
 }
 
 // A round on the working variables, with the constant k and the word w.
+#[tactic(auto, unfolding(crate::specs::Computation::round))]
 fn round(v: [u32; 8], k: u32, w: u32) -> [u32; 8]
     ensures { result ≡ round v k w }
 {
@@ -139,6 +140,7 @@ fn last_rounds(v: [u32; 8], w: &[u32; 64]) -> [u32; 8]
 }
 
 // The working variables added to the hash value.
+#[tactic(auto, unfolding(crate::specs::Computation::added))]
 fn sums(v: [u32; 8], hash: [u32; 8]) -> [u32; 8]
     ensures { result ≡ added v hash }
 {

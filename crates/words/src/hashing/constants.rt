@@ -25,6 +25,7 @@ pub(super) fn initial() -> [u32; 8]
 }
 
 // The constant of round t.
+#[tactic(auto, unfolding(crate::specs::Constants::K_words))]
 pub(super) fn constant(t: usize) -> u32
     requires { t < 64 }
     ensures { result ≡ K t }

@@ -3,6 +3,7 @@ ghost use Rattle.std.specs.Prelude.{◌≡◌};
 ghost use Rattle.words.specs.Functions.{Ch, Maj, Σ0, Σ1, σ0, σ1};
 
 // Each bit of x chooses the bit of y or of z; one operation fewer than in the standard's form, to which it is proved equal.
+#[tactic(auto, using(crate::proofs::Choice::choice_32))]
 pub(super) fn ch(x: u32, y: u32, z: u32) -> u32
     ensures { result ≡ Ch x y z }
 {
@@ -10,6 +11,7 @@ pub(super) fn ch(x: u32, y: u32, z: u32) -> u32
 }
 
 // Each bit is the majority of the three; one round's `y ^ z` is the `x ^ y` of the round before, so the compiler can share it.
+#[tactic(auto, using(crate::proofs::Majority::majority_32))]
 pub(super) fn maj(x: u32, y: u32, z: u32) -> u32
     ensures { result ≡ Maj x y z }
 {

@@ -1,5 +1,5 @@
 // The last blocks of a padded message: FIPS 180-4, section 5.1.1.
-ghost use Rattle.std.specs.Prelude.{◌≡◌, ◌+◌, ◌*◌, ◌/◌, ◌%◌, ◌^◌, ◌≤◌, length, take, drop};
+ghost use Rattle.std.specs.Prelude.{◌≡◌, ◌+◌, ◌*◌, ◌/◌, ◌%◌, ◌^◌, ◌<◌, ◌≤◌, length, take, drop, slice_set};
 ghost use Rattle.words.specs.Padding.{pad, zeros};
 ghost use Rattle.words.specs.Writing.{written};
 
@@ -9,6 +9,14 @@ pub(super) fn write(out: &mut [u8], at: usize, bytes: &[u8])
     ensures { out.new ≡ written out.old at bytes.now }
 {
     out[at..at + bytes.len()].copy_from_slice(bytes);
+}
+
+// Puts the byte 80h at a place of `out`: the bit 1 that follows the message.
+fn mark(out: &mut [u8], at: usize)
+    requires { at < length out.old }
+    ensures { out.new ≡ slice_set out.old at 0x80 }
+{
+    out[at] = 0x80;
 }
 
 // How long the last blocks are, for a message of n bytes: its bytes after the last whole block, the byte 80h, zeros and the length.
@@ -36,7 +44,7 @@ pub(super) fn last_blocks(message: &[u8]) -> ([u8; 128], usize)
     let bits = bit_length(message.len());
     let mut last = [0; 128];
     write(&mut last, 0, rest);
-    last[rest.len()] = 0x80;
+    mark(&mut last, rest.len());
     write(&mut last, end - 8, &bits.to_be_bytes());
     (last, end)
 }

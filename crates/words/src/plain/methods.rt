@@ -60,6 +60,7 @@ impl<'a> Sealer for PlainSealer<'a> {
         self.list.phases()
     }
 
+    #[tactic(auto, using(crate::proofs::Entries::given_passes, crate::proofs::Entries::given_zeros))]
     fn seal(&self, phase: u16, value: u8) -> [u8; 32] {
         self.list.word(self.cabin, phase, value)
     }

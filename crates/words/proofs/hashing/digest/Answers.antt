@@ -13,8 +13,8 @@ pub loop-i-preserved : goal.loop-i-preserved
 loop-i-preserved c = (
   omega arith,
   ap (take (4 * (c.loop-i.i + 1))) c.write.ensures
-      ∙ digest_more c.args.value c.loop-i.bytes c.to-be-bytes.result c.loop-i.i (omega arith) (omega arith)
-      c.loop-i.invariant.1 (c.to-be-bytes.ensures ∙ plain_bytes 4 (get_or c.args.value c.loop-i.i 0)),
+      ∙ digest_more c.args.value c.loop-i.bytes c.to_be_bytes.result c.loop-i.i (omega arith) (omega arith)
+      c.loop-i.invariant.1 (c.to_be_bytes.ensures ∙ plain_bytes 4 (get_or c.args.value c.loop-i.i 0)),
 )
 
 pub returns : goal.returns

@@ -12,6 +12,6 @@ loop-k-preserved c =
     let l = list_view c.args.list.now in
     let own = c.args.own.now in
     elim c.if-all.branch [
-      | then-all w ↦ w.all-is ∙ (sym (ap (λ (t : Bool). t && w.passes-hashed-all.result) w.if-all.true) ∙ own_pass_more l c.args.cabin own c.loop-k.k c.loop-k.all w.passes-hashed-all.result c.loop-k.invariant w.passes-hashed-all.ensures)
+      | then-all w ↦ w.all-is ∙ (sym (ap (λ (t : Bool). t && w.passes_hashed-all.result) w.if-all.true) ∙ own_pass_more l c.args.cabin own c.loop-k.k c.loop-k.all w.passes_hashed-all.result c.loop-k.invariant w.passes_hashed-all.ensures)
       | else-all w ↦ w.all-is ∙ own_pass_ended l c.args.cabin own c.loop-k.k c.loop-k.all c.loop-k.invariant w.if-all.false
     ]

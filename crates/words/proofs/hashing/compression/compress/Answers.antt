@@ -4,4 +4,4 @@ use Rattle.words.proofs.hashing.compression.compress.Goals as goal
 
 pub returns : goal.returns
 unfolding compress
-returns c = let turned = c.last-rounds.ensures c.args.hash c.first-rounds-v.ensures.value in cc
+returns c = let turned = c.last_rounds.ensures c.args.hash c.first_rounds-v.ensures.value in cc

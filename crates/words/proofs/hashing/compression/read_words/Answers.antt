@@ -8,8 +8,8 @@ use Rattle.words.proofs.hashing.compression.read_words.Goals as goal
 
 pub loop-t-preserved : goal.loop-t-preserved
 loop-t-preserved c = (
-  length-set c.loop-t.w c.loop-t.t c.read-word.result ∙ c.loop-t.invariant.0,
-  simp c.read-word.ensures (fill_by_more (word c.args.block.now) c.loop-t.w c.loop-t.t 0 (omega arith) c.loop-t.invariant.1),
+  length-set c.loop-t.w c.loop-t.t c.read_word.result ∙ c.loop-t.invariant.0,
+  simp c.read_word.ensures (fill_by_more (word c.args.block.now) c.loop-t.w c.loop-t.t 0 (omega arith) c.loop-t.invariant.1),
 )
 
 pub returns : goal.returns

@@ -5,5 +5,5 @@ use Rattle.words.proofs.hashing.padding.write.Goals as goal
 
 pub returns : goal.returns
 returns c =
-    put_mid_written c.args.at _ c.args.out.now c.copy-from-slice.new.self c.args.bytes.now
-    c.copy-from-slice.ensures.after (omega arith)
+    put_mid_written c.args.at _ c.args.out.now c.copy_from_slice.new.self c.args.bytes.now
+    c.copy_from_slice.ensures.after (omega arith)
