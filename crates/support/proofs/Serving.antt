@@ -109,8 +109,8 @@ module _ (s : Settings) (t m m' : List Place) (φ ψ : ℕ) where
             ])
       ]
 
-  pub serves_second : (v k ω c : ℕ) → Converge ≡ kind_of φ → ψ ≡ φ - 2 → ω ≡ φ - 1 → k ≡ quorum_of s.cabins s.faults → c ≡ tally s.cabins (records_of s t) ω 2 → c < k → Adds s t ψ ψ k m m' → EnoughFor s t m' ψ v k → Serves s t φ most_rule (λ u. meets_value s u φ v) m m'
-  serves_second v k ω c kind second before is counted missed adds enough =
+  pub serves_second : (v k ω : ℕ) → Converge ≡ kind_of φ → ψ ≡ φ - 2 → ω ≡ φ - 1 → k ≡ quorum_of s.cabins s.faults → tally s.cabins (records_of s t) ω 2 < k → Adds s t ψ ψ k m m' → EnoughFor s t m' ψ v k → Serves s t φ most_rule (λ u. meets_value s u φ v) m m'
+  serves_second v k ω kind second before is missed adds enough =
       let few : has_quorum (hall_of s) (records_of s t) ω 2 ≡ false = lt-leb _ _ (omega arith) in
       record {
         adds = recent k most_rule (omega arith) (omega arith) (omega (arith, quorum_small s)) adds;
@@ -129,18 +129,15 @@ module _ (s : Settings) (t m m' : List Place) (φ ψ : ℕ) where
   }
 
 -- a weak quorum for each course
-pub record Both (s : Settings) (t : List Place) (φ : ℕ) (m m' : List Place) : Type 0 where
-  pub adds : Adds s t φ φ most_rule m m'
-  pub carries : Carries s t m' (λ u. both_held s.cabins s.faults u φ)
+module _ (s : Settings) (t : List Place) (φ h k : ℕ) (m m' m'' : List Place) (first : h ≡ weak_quorum_of s.cabins s.faults) (second : k ≡ weak_quorum_of s.cabins s.faults) where
+  pub both_adds : Adds s t φ φ h m m' → Adds s t φ φ k m' m'' → Adds s t φ φ most_rule m m''
+  both_adds adds adds' =
+      adds_wider s t φ φ (h + k) φ φ most_rule m m'' (omega arith) (omega arith) (omega (arith, weak_quorum_small s)) (adds_more s t φ φ h k m m' m'' adds adds')
 
-pub both_from : (s : Settings) (t : List Place) (φ h k : ℕ) (m m' m'' : List Place) → h ≡ weak_quorum_of s.cabins s.faults → k ≡ weak_quorum_of s.cabins s.faults → Adds s t φ φ h m m' → EnoughFor s t m' φ 0 h → Adds s t φ φ k m' m'' → EnoughFor s t m'' φ 1 k → Both s t φ m m''
-both_from s t φ h k m m' m'' first second adds enough adds' enough' =
-    let zero = subst (λ (x : ℕ). Carries s t m' (λ u. leb x (tally s.cabins u φ 0))) first (carries_for s t m' φ 0 h enough) in
-    let one = subst (λ (x : ℕ). Carries s t m'' (λ u. leb x (tally s.cabins u φ 1))) second (carries_for s t m'' φ 1 k enough') in
-    let kept = carries_more s t m' m'' (λ u. has_weak_quorum s.cabins s.faults u φ 0) (adds_within s t φ φ k m' m'' adds') zero in
-    record {
-      adds = adds_wider s t φ φ (h + k) φ φ most_rule m m'' (omega arith) (omega arith) (omega (arith, weak_quorum_small s)) (adds_more s t φ φ h k m m' m'' adds adds');
-      carries = λ u within e.
-          let parts = and_parts (has_weak_quorum s.cabins s.faults (records_of s t) φ 0) (has_weak_quorum s.cabins s.faults (records_of s t) φ 1) e in
-          and_from (has_weak_quorum s.cabins s.faults u φ 0) (has_weak_quorum s.cabins s.faults u φ 1) (kept u within parts.0) (one u within parts.1);
-    }
+  pub both_carries : EnoughFor s t m' φ 0 h → Adds s t φ φ k m' m'' → EnoughFor s t m'' φ 1 k → Carries s t m'' (λ u. both_held s.cabins s.faults u φ)
+  both_carries enough adds' enough' u within e =
+      let zero = subst (λ (x : ℕ). Carries s t m' (λ u. leb x (tally s.cabins u φ 0))) first (carries_for s t m' φ 0 h enough) in
+      let one = subst (λ (x : ℕ). Carries s t m'' (λ u. leb x (tally s.cabins u φ 1))) second (carries_for s t m'' φ 1 k enough') in
+      let kept = carries_more s t m' m'' (λ u. has_weak_quorum s.cabins s.faults u φ 0) (adds_within s t φ φ k m' m'' adds') zero in
+      let parts = and_parts (has_weak_quorum s.cabins s.faults (records_of s t) φ 0) (has_weak_quorum s.cabins s.faults (records_of s t) φ 1) e in
+      and_from (has_weak_quorum s.cabins s.faults u φ 0) (has_weak_quorum s.cabins s.faults u φ 1) (kept u within parts.0) (one u within parts.1)

@@ -95,6 +95,7 @@ fn lowest_value(settings: &Settings, table: &[Place], phase: u16, cabin: u8) -> 
 }
 
 // Copies a record that the table has.
+#[tactic(auto, using(crate::proofs::Copying::copy_nowhere, crate::proofs::Copying::copy_outside))]
 fn copy(
     settings: &Settings,
     table: &[Place],

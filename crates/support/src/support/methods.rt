@@ -17,6 +17,7 @@ impl Support {
     }
 
     // Adds a place at the end.
+    #[tactic(auto, using(crate::proofs::Listing::pushed))]
     pub(crate) fn push(&mut self, place: u16)
         requires { length (support_places self.old) < most_support }
         ensures { support_places self.new ≡ support_places self.old ++ place ∷ [] }
@@ -33,6 +34,7 @@ impl Support {
     }
 
     // The place with this index, if there are so many.
+    #[tactic(auto, using(crate::proofs::Listing::placed))]
     pub fn place(&self, index: usize) -> Option<u16>
         ensures { result ≡ place_at (support_places self.now) index }
     {

@@ -13,6 +13,6 @@ push-requires c = listed_room _ _ _ _ c.loop-place.invariant c.if-filled_at.ensu
 pub loop-place-preserved : goal.loop-place-preserved
 loop-place-preserved c =
     elim c.if-filled_at.branch [
-      | then-filled_at w ↦ listed_in _ _ _ _ c.loop-place.invariant w.if-filled_at.ensures (ap support_places w.support-is ∙ w.push.ensures)
-      | else-filled_at w ↦ listed_out _ _ _ _ c.loop-place.invariant w.if-filled_at.ensures (ap support_places w.support-is)
+      | then-filled_at w ↦ search (listed_in, c.loop-place.invariant, w.if-filled_at.ensures, ap support_places w.support-is ∙ w.push.ensures)
+      | else-filled_at w ↦ search (listed_out, c.loop-place.invariant, w.if-filled_at.ensures, ap support_places w.support-is)
     ]

@@ -4,7 +4,7 @@ use Rattle.support.proofs.chosen.top_up.Goals as goal
 use Rattle.support.proofs.chosen.top_up.Goals.{then-cabins-most+in-Some, then-cabins-most+in_default, else-cabins-most}
 
 pub loop-cabin-init : goal.loop-cabin-init
-loop-cabin-init c = topped_none _ _ _ _ _ _ c.requires c.turnout-cabins.ensures
+loop-cabin-init c = search (topped_none, c.requires, c.turnout-cabins.ensures)
 
 pub loop-cabin-preserved : goal.loop-cabin-preserved
 loop-cabin-preserved c =
