@@ -4,6 +4,6 @@ use Rattle.packets.proofs.packet.fields_at.Goals as goal
 
 pub returns : goal.returns
 returns c = record {
-  answer = c.read-fields.ensures.answer;
-  back = IfOk-weaker _ _ _ (λ f head. rewrites c.args.packet.now c.args.place f c.requires head) c.read-fields.ensures.head;
+  answer = c.read_fields.ensures.answer;
+  back = IfOk-weaker _ _ _ (λ f head. rewrites c.args.packet.now c.args.place f c.requires head) c.read_fields.ensures.head;
 }
