@@ -24,6 +24,15 @@ pub last_bits_more : (bs : List ℕ) (n m : ℕ) → n ≡ m + 1 → last_bits b
 unfolding last_bits
 last_bits_more bs n m e = rw (e, add-one m) refl
 
+-- the next bit, and the bits behind it
+pub last_bits_step : (bs : List ℕ) (n : ℕ) → 0 < n → last_bits bs n ≡ bit_behind bs (n - 1) ∷ last_bits bs (n - 1)
+last_bits_step bs n more = last_bits_more bs n (n - 1) (omega arith)
+
+-- what a toss needs of the list, and what counting it needs
+pub ruleset tossing = (last_bits_none, last_bits_step)
+
+pub ruleset counting = (last_bits_length, last_bits_each)
+
 -- a byte put in front changes no byte behind it
 behind_front : (b : ℕ) (bs : List ℕ) (j : ℕ) → j < length bs → byte_behind (b ∷ bs) j ≡ byte_behind bs j
 behind_front b bs j within =

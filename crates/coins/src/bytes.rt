@@ -19,6 +19,7 @@ pub struct ByteCoin<'a> {
 
 impl<'a> ByteCoin<'a> {
     // A coin of all bits of at most 4,096 bytes.
+    #[tactic(auto, using(crate::proofs::ByteLists::last_bits_all))]
     pub fn new(bytes: &'a [u8]) -> Result<ByteCoin<'a>, Refusal>
         ensures { told byte_coin_bits result ≡ byte_coin_answer bytes.now }
     {
@@ -52,6 +53,7 @@ fn byte_behind(bytes: &[u8], count: usize) -> u8
 impl Coin for ByteCoin<'_> {
     ghost bits = { byte_coin_bits };
 
+    #[tactic(auto, using(crate::proofs::ByteLists::tossing))]
     fn toss(&mut self) -> u8 {
         if self.left == 0 {
             return 0;
@@ -60,6 +62,7 @@ impl Coin for ByteCoin<'_> {
         bit_behind(self.bytes, self.left)
     }
 
+    #[tactic(auto, using(crate::proofs::ByteLists::counting))]
     fn left(&self) -> usize {
         usize::from(self.left)
     }

@@ -1,5 +1,5 @@
 -- The records of a packet by place, and a packet in which one was written.
-use Rattle.std.proofs.Common.{◌≡◌, ℕ, ◌+◌, ◌-◌, ◌*◌, ◌<◌, ◌≤◌, true, List, ◌++◌, length, take, drop, sym, ap, ◌∙◌, inl, inr, arith}
+use Rattle.std.proofs.Common.{◌≡◌, ℕ, ◌+◌, ◌-◌, ◌*◌, ◌<◌, ◌≤◌, true, List, ◌++◌, length, take, drop, refl, sym, ap, ◌∙◌, inl, inr, arith}
 use borrow.Rule.Slice.PartMut.{put_mid}
 use lib.Seq.{paste}
 use Rattle.std.proofs.lemmas.List.Edits.{length-between, paste_all, paste-paste, split_between}
@@ -37,13 +37,13 @@ rewrites p k f within head =
     }
 
 -- the two parts that a write copies make the record
-pub parts_written : (p h hs w ws : List ℕ) (k : ℕ) → k * 40 + 40 ≤ length p → h ≡ hs → w ≡ ws → length hs ≡ 8 → length ws ≡ 32 → put_mid (k * 40 + 8) (k * 40 + 40 - (k * 40 + 8)) (put_mid (k * 40) (k * 40 + 8 - k * 40) p h) w ≡ written p k (hs ++ ws)
-parts_written p h hs w ws k within head word eight whole =
+pub parts_written : (p h w : List ℕ) (k : ℕ) → k * 40 + 40 ≤ length p → length h ≡ 8 → length w ≡ 32 → put_mid (k * 40 + 8) (k * 40 + 40 - (k * 40 + 8)) (put_mid (k * 40) (k * 40 + 8 - k * 40) p h) w ≡ written p k (h ++ w)
+parts_written p h w k within eight whole =
     let a : ℕ = k * 40 in
-    let m = put_mid-paste a (a + 8 - a) p h hs 8 head (omega arith) (sym eight) in
-    let n = put_mid-paste (a + 8) (a + 40 - (a + 8)) (paste p a hs 8) w ws 32 word (omega arith) (sym whole) in
-    let q = paste-paste p a hs ws 8 32 (sym eight) (sym whole) (omega arith) in
-    let all = paste_all p a (hs ++ ws) 40 (simp length-append (omega arith)) in
+    let m = put_mid-paste a (a + 8 - a) p h h 8 refl (omega arith) (sym eight) in
+    let n = put_mid-paste (a + 8) (a + 40 - (a + 8)) (paste p a h 8) w w 32 refl (omega arith) (sym whole) in
+    let q = paste-paste p a h w 8 32 (sym eight) (sym whole) (omega arith) in
+    let all = paste_all p a (h ++ w) 40 (simp length-append (omega arith)) in
     ap (λ (x : List ℕ). put_mid (a + 8) (a + 40 - (a + 8)) x w) m ∙ (n ∙ (q ∙ all))
 
 -- a write as the prover sees it

@@ -53,6 +53,7 @@ pub fn read<'a>(
 }
 
 // The fields of the record at a place of a packet, or why the record is refused.
+#[tactic(auto, using(crate::proofs::Places::rewrites))]
 fn fields_at(
     packet: &[u8],
     place: usize,

@@ -118,8 +118,8 @@ fn written_records_read_back(rt: HostRuntime) -> Result<(), Fail> {
     let mut packet = [255; 80];
     write(&mut packet, 0, first, &[5; WORD_SIZE])?;
     write(&mut packet, 1, second, &[6; WORD_SIZE])?;
-    assert_eq!(rt; parts(&packet, 0)?, (false, first, &[5; WORD_SIZE]));
-    assert_eq!(rt; parts(&packet, 1)?, (true, second, &[6; WORD_SIZE]));
+    assert_eq!(rt; parts(&packet, 0)?, (false, first, &[5; WORD_SIZE][..]));
+    assert_eq!(rt; parts(&packet, 1)?, (true, second, &[6; WORD_SIZE][..]));
     assert_eq!(rt; parts(&packet, 2).err(), Some(Refusal::PacketSize));
     Ok(())
 }

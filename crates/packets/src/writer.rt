@@ -28,6 +28,7 @@ pub fn write(
 }
 
 // Writes a record at a place that the buffer has.
+#[tactic(auto, using(crate::proofs::Places::parts_written, crate::proofs::Places::reads_back))]
 fn put(buffer: &mut [u8], place: usize, fields: Fields, word: &[u8; WORD_SIZE])
     requires { place < places_in buffer.old }
     ensures after { buffer.new ≡ written buffer.old place (record_bytes fields word.now) }

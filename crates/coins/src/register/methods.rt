@@ -28,6 +28,7 @@ impl RegisterCoin {
 impl Coin for RegisterCoin {
     ghost bits = { register_coin_bits };
 
+    #[tactic(auto, using(crate::proofs::RegisterLists::tossing))]
     fn toss(&mut self) -> u8 {
         if self.left == 0 {
             return 0;
@@ -38,6 +39,7 @@ impl Coin for RegisterCoin {
         answer
     }
 
+    #[tactic(auto, using(crate::proofs::RegisterLists::counting))]
     fn left(&self) -> usize {
         usize::from(self.left)
     }
