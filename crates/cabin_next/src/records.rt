@@ -22,8 +22,8 @@ pub(crate) fn hear_records<W: WordCheck>(
     packet: &[u8],
     count: usize,
 ) -> Tally
-    requires count_value { count ≡ places_in packet.now }
-    requires count_bound { count ≤ 36 }
+    requires all { count ≡ places_in packet.now }
+    requires few { count ≤ 36 }
     ensures tally { tally_view result ≡ (heard (W.WordCheck.answers check.now) state.now table.old packet.now).progress }
     ensures table { table.new ≡ (heard (W.WordCheck.answers check.now) state.now table.old packet.now).table }
 {
@@ -43,9 +43,9 @@ fn hear_record<W: WordCheck>(
     place: usize,
     tally: Tally,
 ) -> Tally
-    requires kept_bound { tally.kept < 255 }
-    requires known_bound { tally.known < 255 }
-    requires turned_bound { tally.turned < 255 }
+    requires kept_room { tally.kept < 255 }
+    requires known_room { tally.known < 255 }
+    requires turned_room { tally.turned < 255 }
     ensures tally { tally_view result ≡ (heard_one (W.WordCheck.answers check.now) state.now place (read_answer state.now.settings state.now.branch packet.now place) (hearing_of tally table.old)).progress }
     ensures table { table.new ≡ (heard_one (W.WordCheck.answers check.now) state.now place (read_answer state.now.settings state.now.branch packet.now place) (hearing_of tally table.old)).table }
 {
@@ -93,11 +93,11 @@ fn take<W: WordCheck>(
     place: usize,
     tally: Tally,
 ) -> Tally
-    requires kept_bound { tally.kept < 255 }
-    requires known_bound { tally.known < 255 }
-    requires turned_bound { tally.turned < 255 }
-    requires value_value { in_table state.now.settings fields.phase fields.cabin fields.value ≡ true }
-    requires word_len { length word.now ≡ 32 }
+    requires kept_room { tally.kept < 255 }
+    requires known_room { tally.known < 255 }
+    requires turned_room { tally.turned < 255 }
+    requires placed { in_table state.now.settings fields.phase fields.cabin fields.value ≡ true }
+    requires whole { length word.now ≡ 32 }
     ensures tally { tally_view result ≡ (taken state.now place fields word.now (found (W.WordCheck.answers check.now) state.now.settings table.old fields word.now) (hearing_of tally table.old)).progress }
     ensures table { table.new ≡ (taken state.now place fields word.now (found (W.WordCheck.answers check.now) state.now.settings table.old fields word.now) (hearing_of tally table.old)).table }
 {
@@ -113,8 +113,8 @@ fn take<W: WordCheck>(
 
 // Fills the place of a record with its status and its word.
 fn fill(table: &mut [Place], settings: &Settings, fields: Fields, word: &[u8])
-    requires value_value { in_table settings.now fields.phase fields.cabin fields.value ≡ true }
-    requires word_len { length word.now ≡ 32 }
+    requires placed { in_table settings.now fields.phase fields.cabin fields.value ≡ true }
+    requires whole { length word.now ≡ 32 }
     ensures { table.new ≡ slice_set table.old (place_of settings.now fields.phase fields.cabin fields.value) (Filled fields.status word.now) }
 {
     let filled = Place::Filled {

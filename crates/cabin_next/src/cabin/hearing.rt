@@ -70,8 +70,8 @@ impl Cabin {
 
     // Moves once, by the table and the record to catch up with.
     fn advance<C: Coin>(&mut self, table: &[Place], ahead: Option<Fields>, coin: &mut C)
-        requires phase_bound { (f : Fields) → ahead ≡ Some f → (f.phase ≤ (cabin_state self.old).settings.phases) × (f.value ≤ 2) }
-        requires coin_value { are_bits (C.Coin.bits coin.old) ≡ true }
+        requires lawful { (f : Fields) → ahead ≡ Some f → (f.phase ≤ (cabin_state self.old).settings.phases) × (f.value ≤ 2) }
+        requires coin_bits { are_bits (C.Coin.bits coin.old) ≡ true }
         ensures state { cabin_state self.new ≡ (moved (records_of (cabin_state self.old).settings table.now) ahead (with_bits (cabin_state self.old) (C.Coin.bits coin.old))).state }
         ensures bits { C.Coin.bits coin.new ≡ (moved (records_of (cabin_state self.old).settings table.now) ahead (with_bits (cabin_state self.old) (C.Coin.bits coin.old))).bits }
     {

@@ -10,7 +10,11 @@ loop-place-init g c =
 pub hear_record-tally-requires : goal.hear_record-tally-requires
 hear_record-tally-requires g c =
     let so_far = c.loop-place.invariant.1 in
-    (omega (arith, so_far.kept), omega (arith, so_far.known), omega (arith, so_far.turned))
+    record {
+      kept_room = omega (arith, so_far.kept);
+      known_room = omega (arith, so_far.known);
+      turned_room = omega (arith, so_far.turned);
+    }
 
 pub loop-place-preserved : goal.loop-place-preserved
 loop-place-preserved g c =

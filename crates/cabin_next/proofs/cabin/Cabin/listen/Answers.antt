@@ -6,7 +6,10 @@ use Rattle.cabin_next.proofs.cabin.Cabin.listen.Goals as goal
 
 pub advance-requires : goal.advance-requires
 advance-requires g c =
-    (ahead_lawful (g.W.WordCheck.answers c.args.check.now) c.args.self.now.state c.args.table.now c.args.packet.now c.hear_records-tally.result (omega arith) c.hear_records-tally.ensures.tally, c.left-left.ensures.each)
+    record {
+      lawful = ahead_lawful (g.W.WordCheck.answers c.args.check.now) c.args.self.now.state c.args.table.now c.args.packet.now c.hear_records-tally.result (omega arith) c.hear_records-tally.ensures.tally;
+      coin_bits = c.left-left.ensures.each;
+    }
 
 pub returns-in-Ok : goal.returns-in-Ok
 returns-in-Ok g c =
