@@ -1,12 +1,11 @@
 -- What a sealer of the list seals: the word itself, or zeros.
-use Rattle.std.proofs.Common.{◌≡◌, ℕ, zero, suc, ◌+◌, ◌-◌, ◌*◌, ◌/◌, ◌%◌, ◌<◌, ◌≤◌, Bool, true, false, cond, ◌&&◌, ltb, leb, List, [], ◌++◌, length, take, drop, sym, refl, ap, ◌∙◌, inl, inr, arith}
+use Rattle.std.proofs.Common.{◌≡◌, ℕ, zero, suc, ◌+◌, ◌-◌, ◌*◌, ◌/◌, ◌%◌, ◌<◌, ◌≤◌, true, false, ◌&&◌, ltb, leb, List, ◌++◌, length, take, drop, sym, refl, ap, ◌∙◌, inl, inr, arith}
 use Rattle.std.proofs.lemmas.List.{drop-append-le, take-append-le, length-drop, drop_all, take_all}
 use Rattle.std.proofs.lemmas.Bool.{and_from, and_left, and_parts, and_right, cases_Bool, cases_lt, le-leb, leb-true, lt-ltb, ltb-true}
 use Rattle.std.specs.List.{between}
-use Rattle.words.specs.Checks.{empty_list, entry_bytes, entry_or_zeros, entry_place, has_entry, in_range, list_answer}
-use Rattle.words.specs.Sealers.{PlainView, empty_plain, make_plain, place_after, plain_of, plain_seals}
+use Rattle.words.specs.Checks.{entry_bytes, entry_or_zeros, entry_place, has_entry, in_range}
+use Rattle.words.specs.Sealers.{PlainView, plain_seals}
 use Rattle.words.specs.Words.{zero_word}
-use Rattle.rehearsal_next.specs.Settings.{rehearsal_settings}
 use Rattle.rehearsal_next.specs.Words.{has_word, sealer_of, word_list, word_of, word_or_zeros, words_to}
 use Rattle.rehearsal_next.proofs.Words.{length_words, list_is}
 

@@ -1,13 +1,13 @@
 -- What every step keeps: a refused one changes nothing, and none changes another seat.
-use Rattle.std.proofs.Common.{◌≡◌, ℕ, List, length, set, Some, None, Ok, Err, Option, Result, sym, refl, ◌∙◌, inl, inr, arith}
+use Rattle.std.proofs.Common.{◌≡◌, ℕ, List, length, Some, None, Ok, Err, Option, Result, sym, refl, ◌∙◌, inl, inr, arith}
 use Rattle.std.proofs.lemmas.List.{get_or-set_other, set-get_or, set_past}
 use Rattle.std.proofs.lemmas.Bool.{cases_lt, lt-ltb}
 use Rattle.moves.specs.Hearing.{Told, hear_answer}
 use Rattle.moves.specs.declared.state.State.{State}
 use Rattle.rehearsal_next.specs.Answers.{Reply}
 use Rattle.rehearsal_next.specs.Laws.{Keeps}
-use Rattle.rehearsal_next.specs.Seats.{SeatView, Turn, announce_reply, announces_as, closed_seat, hears_as, if_open, opens_from, seat_announces, seat_hears, seat_hears_latest, seat_opens}
-use Rattle.rehearsal_next.specs.Stage.{Turned, seat_at, step_turn, turn}
+use Rattle.rehearsal_next.specs.Seats.{SeatView, Turn, announce_reply, announces_as, closed_seat, hears_as, if_open, opens_from, seat_hears_latest}
+use Rattle.rehearsal_next.specs.Stage.{Turned, seat_at, turn}
 use Rattle.rehearsal_next.specs.Words.{claimed, word_check}
 use Rattle.rehearsal_next.specs.declared.step.Step.{Step}
 use Rattle.rehearsal_next.specs.declared.step.Step.TheVariants.{Open, Announce, Hear, HearRecord}

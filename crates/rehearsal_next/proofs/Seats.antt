@@ -14,14 +14,14 @@ use Rattle.words.specs.Checks.{ListView, plain_answers}
 use Rattle.words.specs.Sealers.{PlainView, plain_seals}
 use Rattle.moves.specs.Announcing.{Announced, Sealing, announce_answer, announce_state, marked, sealing}
 use Rattle.moves.specs.Hearing.{Told, hear_answer, hear_bits, hear_state, hear_table}
-use Rattle.moves.specs.Opening.{open_answer, open_table}
+use Rattle.moves.specs.Opening.{open_answer}
 use Rattle.moves.specs.declared.state.State.{State}
-use Rattle.cabin_next.specs.Views.{cabin_state, heard_view}
+use Rattle.cabin_next.specs.Views.{cabin_state}
 use Rattle.cabin_next.specs.declared.cabin.Cabin.{Cabin}
 use Rattle.rehearsal_next.specs.Answers.{Reply, heard_answer}
-use Rattle.rehearsal_next.specs.Seats.{MayAnnounce, SeatView, Turn, Writes, announce_reply, announces_as, blank, hears_as, if_accepted, may_write, opens_from, packet_bytes, packet_or_none, seat_announces, seat_hears, seat_opens, seat_view}
+use Rattle.rehearsal_next.specs.Seats.{MayAnnounce, SeatView, Turn, Writes, announce_reply, blank, opens_from, packet_bytes, packet_or_none, seat_announces, seat_hears, seat_opens, seat_view}
 use Rattle.rehearsal_next.specs.Settings.{rehearsal_settings}
-use Rattle.rehearsal_next.specs.Words.{sealer_of, sealing_of, word_check, word_list}
+use Rattle.rehearsal_next.specs.Words.{sealer_of, word_check, word_list}
 use Rattle.rehearsal_next.specs.declared.packet.Packet.{Packet}
 use Rattle.rehearsal_next.specs.declared.seat.Seat.{Seat}
 

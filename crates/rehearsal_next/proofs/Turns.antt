@@ -1,5 +1,5 @@
 -- One step, one step more of a transcript, and one byte more of a step.
-use Rattle.std.proofs.Common.{◌≡◌, ℕ, zero, suc, ◌+◌, ◌<◌, Bool, true, false, cond, eqb, List, [], ◌∷◌, ◌++◌, length, get_or, set, Option, sym, refl, ap, ◌∙◌, subst, inl, inr, add-one, arith, length-set}
+use Rattle.std.proofs.Common.{◌≡◌, ℕ, zero, suc, ◌+◌, ◌<◌, cond, eqb, List, [], ◌∷◌, ◌++◌, length, get_or, set, Option, sym, refl, ◌∙◌, subst, inl, inr, add-one, arith, length-set}
 use Rattle.std.proofs.lemmas.List.Edits.{fill_by_more}
 use Rattle.std.proofs.lemmas.Bool.{cases_eq, eq-eqb, ne_eqb}
 use Rattle.moves.specs.declared.state.State.{State}
@@ -7,7 +7,7 @@ use Rattle.rehearsal_next.specs.Answers.{Reply}
 use Rattle.rehearsal_next.specs.Laws.{Keeps}
 use Rattle.rehearsal_next.specs.Lines.{Said, said_text}
 use Rattle.rehearsal_next.specs.Seats.{SeatView}
-use Rattle.rehearsal_next.specs.Stage.{MayWrite, Turned, first_stage, seat_at, stage_after, step_said, turn}
+use Rattle.rehearsal_next.specs.Stage.{MayWrite, Turned, first_stage, seat_at, step_said, turn}
 use Rattle.rehearsal_next.specs.Steps.{actor, step_of}
 use Rattle.rehearsal_next.specs.Transcript.{LawfulAt, LawfulTo, Packets, lines_to, stage_at, stage_next, step_bytes}
 use Rattle.rehearsal_next.specs.declared.step.Step.{Step}
