@@ -216,7 +216,7 @@ fn announced_records_read_back(rt: HostRuntime) -> Result<(), Fail> {
             word: given,
         } => {
             assert_eq!(rt; fields, own);
-            assert_eq!(rt; given, &word(3, 2, 1));
+            assert_eq!(rt; given, word(3, 2, 1).as_slice());
             Ok(())
         }
         Reading::Support { .. } => {
