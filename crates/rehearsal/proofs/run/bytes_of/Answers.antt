@@ -6,7 +6,7 @@ use Rattle.rehearsal.proofs.run.bytes_of.Goals as goal
 
 pub loop-j-preserved : goal.loop-j-preserved
 loop-j-preserved c =
-    bytes_more (λ i. get_or c.args.input.now (8 * c.args.k + i) 255) _ _ _ c.loop-j-test.true c.loop-j.invariant c.byte_at.ensures
+    bytes_more (λ i. get_or c.args.input.now (8 * c.args.k + i) 255) _ _ _ c.loop-j-test.true c.loop-j.invariant (cc)
 
 pub returns : goal.returns
 unfolding step_bytes

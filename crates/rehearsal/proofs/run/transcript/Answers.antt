@@ -6,4 +6,4 @@ loop-k-init c = played_none _ _ _ c.in_ok-hall.ensures c.new-text.ensures.bytes
 
 pub loop-k-preserved : goal.loop-k-preserved
 loop-k-preserved c =
-    played_more _ _ _ _ _ _ _ _ c.loop-k.invariant c.bytes_of.ensures c.step-line.ensures.line c.step-line.ensures.after c.in_ok-append.ensures
+    played_more _ _ _ _ _ _ _ _ c.loop-k.invariant c.bytes_of.ensures (cc) c.step-line.ensures.after c.in_ok-append.ensures

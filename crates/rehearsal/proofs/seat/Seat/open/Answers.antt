@@ -6,7 +6,7 @@ pub returns-in-Ok : goal.returns-in-Ok
 returns-in-Ok c =
     let e = c.in-Ok.ensures in
     let p = opened_from c.args.settings c.args.number c.args.choice c.args.self.now c.as_mut_slice.result.now c.open.new.table (Ok c.in-Ok.cabin) (cc) c.as_mut_slice.ensures.value c.open.auto.table e.answer e.table in
-    record { answer = p.answer; after = p.view }
+    record { answer = p.answer; after = cc p.view }
 
 pub returns-in-Err : goal.returns-in-Err
 returns-in-Err c =
