@@ -16,11 +16,12 @@ pub enum PhaseKind {
     Decide,
 }
 
-impl PhaseKind {
-    pub fn of(phase: u16) -> PhaseKind
-        ensures { result ≡ kind_of phase }
-    {
-        match phase % 3 {
+// The kind of a phase.
+impl From<u16> for PhaseKind {
+    ghost from_gives = { λ phase kind. kind ≡ kind_of phase };
+
+    fn from(phase: u16) -> PhaseKind {
+        match phase % CYCLE {
             1 => PhaseKind::Converge,
             2 => PhaseKind::Lock,
             _ => PhaseKind::Decide,

@@ -1,12 +1,9 @@
 // The refusals of every call, by number.
-ghost use Rattle.std.specs.Prelude.{◌≡◌, Decides, nat_eq};
-ghost use Rattle.std.specs.Cmp.Rules.{comparing};
-ghost use Rattle.std.specs.Ordering.{on};
-ghost use Rattle.std.proofs.Common.{rules};
+ghost use Rattle.std.specs.Prelude.{◌≡◌};
 ghost use Rattle.settings.specs.Refusals.{refusal_number};
 
 // Why a call, a record or a step was refused. Each case is one number, and one number is one case.
-#[derive(Clone, Copy, Eq, Debug)]
+#[derive(Clone, Copy, PartialEq, Eq, Debug)]
 pub enum Refusal {
     // n or f is out of bounds
     HallSize = 1,
@@ -48,24 +45,11 @@ pub enum Refusal {
     Step = 19,
 }
 
-impl Refusal {
-    pub fn number(self) -> u8
-        ensures { result ≡ refusal_number self }
-    {
-        self as u8
-    }
-}
+// The number of a refusal.
+impl From<Refusal> for u8 {
+    ghost from_gives = { λ refusal number. number ≡ refusal_number refusal };
 
-// Refusals are equal exactly where their numbers are.
-impl PartialEq for Refusal {
-    ghost eq = { on refusal_number nat_eq };
-
-    ghost laws = { Prim.search (comparing, rules) };
-
-    fn eq(&self, other: &Refusal) -> bool
-        ensures answer { result ≡ on refusal_number nat_eq self.now other.now }
-        ensures same { Decides result (self.now ≡ other.now) }
-    {
-        self.number() == other.number()
+    fn from(refusal: Refusal) -> u8 {
+        refusal as u8
     }
 }

@@ -52,6 +52,16 @@ fn kinds_repeat_by_three(rt: HostRuntime) {
         (24, PhaseKind::Decide),
         (25, PhaseKind::Converge),
     ] {
-        assert_eq!(rt; PhaseKind::of(phase), kind);
+        assert_eq!(rt; PhaseKind::from(phase), kind);
+    }
+}
+
+#[test]
+fn statuses_by_number(rt: HostRuntime) {
+    for status in [Status::Undecided, Status::Decided] {
+        assert_eq!(rt; Status::try_from(u8::from(status)), Ok(status));
+    }
+    for number in [2, 255] {
+        assert_eq!(rt; Status::try_from(number), Err(Refusal::Field));
     }
 }
