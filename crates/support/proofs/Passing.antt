@@ -81,9 +81,6 @@ filled_out s t φ vs most m₀ m m' i k₀ k k' so_far nothing same as_many = rw
 })
 
 -- all cabins
-pub filled_adds : (s : Settings) (t : List Place) (φ : ℕ) (vs : List ℕ) (most : ℕ) (m₀ m : List Place) (i k₀ k : ℕ) → Filled s t φ vs most m₀ m i k₀ k → Adds s t φ φ most m₀ m
-filled_adds s t φ vs most m₀ m i k₀ k so_far = adds_wider s t φ φ (k - k₀) φ φ most m₀ m (omega arith) (omega arith) so_far.bound so_far.adds
-
 pub filled_enough : (s : Settings) (t : List Place) (φ : ℕ) (vs : List ℕ) (most : ℕ) (m₀ m : List Place) (i k₀ k : ℕ) → s.cabins ≤ i → Filled s t φ vs most m₀ m i k₀ k → EnoughOf s t m φ vs most
 filled_enough s t φ vs most m₀ m i k₀ k end so_far u within enough =
     let grown = count_within (speaking s m φ vs) (said u φ vs) s.cabins (λ j below. any_within (records_of s m φ j) (u φ j) vs (within φ j)) in

@@ -39,7 +39,7 @@ EnoughFor s t m φ v k = (u : Table) → Within (records_of s m) u → k ≤ tal
 abbrev pub EnoughIn : Settings → List Place → List Place → ℕ → ℕ → Type 0
 EnoughIn s t m φ k = (u : Table) → Within (records_of s m) u → k ≤ turnout (hall_of s) (records_of s t) φ → k ≤ turnout (hall_of s) u φ
 
--- whether a cabin has a record for phase φ with one of the values vs
+-- whether cabin j has a record for phase φ with one of the values vs
 abbrev pub said : Table → ℕ → List ℕ → ℕ → Bool
 said t φ vs j = list_any (t φ j) vs
 

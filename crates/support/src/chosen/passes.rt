@@ -23,7 +23,7 @@ impl Chosen {
         }
     }
 
-    // Chooses the lowest cabins with a record for a phase and a value, until `most` cabins have one.
+    // Chooses records for a phase with a value, of the lowest cabins, until `most` cabins have one.
     #[tactic(auto, using(crate::proofs::Passing::count_of_one, crate::proofs::Passing::enough_of_one))]
     pub fn lowest(&mut self, table: Table, phase: u16, value: u8, most: u8)
         ensures adds { Adds table.entry.settings table.entry.places.now phase phase most self.old.places self.new.places }
@@ -33,7 +33,7 @@ impl Chosen {
         self.fill_up(table, phase, &[value], cabins, most)
     }
 
-    // Chooses the lowest cabins with any record for a phase, until `most` cabins have one.
+    // Chooses records for a phase, of the lowest cabins of which none is chosen, until `most` cabins have one.
     #[tactic(auto, using(crate::proofs::Passing::count_of_all, crate::proofs::Passing::enough_of_all))]
     pub fn top_up(&mut self, table: Table, phase: u16, most: u8)
         ensures adds { Adds table.entry.settings table.entry.places.now phase phase most self.old.places self.new.places }
@@ -43,9 +43,9 @@ impl Chosen {
         self.fill_up(table, phase, &[0, 1, 2], cabins, most)
     }
 
-    // Chooses the lowest cabins with a record for a phase and one of the values, until `most` cabins have one; `cabins` have
-    // one from the start.
-    #[tactic(auto, using(crate::proofs::Missing::missing_had))]
+    // Chooses records for a phase with one of the values, of the lowest cabins of which none is chosen, until `most` cabins
+    // have one; `cabins` have one from the start.
+    #[tactic(auto, using(crate::proofs::Missing::missing_had, crate::proofs::Passing::filled_none))]
     fn fill_up(&mut self, table: Table, phase: u16, values: &[u8], mut cabins: u8, most: u8)
         requires { cabins ≡ count (said (records_of table.settings self.old.places) phase values.now) table.settings.cabins }
         ensures adds { Adds table.entry.settings table.entry.places.now phase phase most self.old.places self.new.places }
@@ -69,6 +69,7 @@ impl Chosen {
     }
 
     // The chosen places, in rising order.
+    #[tactic(auto, using(crate::proofs::Listing::listed_none, crate::proofs::Listing::listed_room))]
     pub fn listed(&self) -> Support
         requires { chosen_count self.now.places ≤ most_support }
         ensures { Listed (filled_at self.now.places) most_places (support_places result) }

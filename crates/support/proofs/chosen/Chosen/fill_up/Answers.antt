@@ -1,11 +1,8 @@
 use Rattle.std.proofs.Common.{ap, ◌∙◌, arith, rules}
 use Rattle.support.specs.declared.chosen.Chosen.{Chosen}
-use Rattle.support.proofs.Passing.{filled_none, filled_in, filled_out, filled_enough}
+use Rattle.support.proofs.Passing.{filled_in, filled_out, filled_enough}
 use Rattle.support.proofs.chosen.Chosen.fill_up.Goals as goal
 use Rattle.support.proofs.chosen.Chosen.fill_up.Goals.{then-cabins-most+in-Some, else-cabins-most, else-cabins-most-via-then-cabins-most+in-None-1, else-cabins-most-via-else-cabins-most}
-
-pub loop-cabin-init : goal.loop-cabin-init
-loop-cabin-init c = filled_none _ _ _ _ _ _ _ (omega arith) c.requires
 
 pub loop-cabin-preserved : goal.loop-cabin-preserved
 loop-cabin-preserved c =
