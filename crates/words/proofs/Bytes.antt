@@ -19,9 +19,13 @@ equal_from_same (x ∷ xs) (y ∷ ys) e =
     cc
 
 -- lists that differ are not the same
-pub same_from_ne : (xs ys : List ℕ) → (xs ≡ ys → ⊥) → same_bytes xs ys ≡ false
+same_from_ne : (xs ys : List ℕ) → (xs ≡ ys → ⊥) → same_bytes xs ys ≡ false
 same_from_ne xs ys ne =
     elim (cases_Bool (same_bytes xs ys)) [ inl e ↦ absurd (ne (equal_from_same xs ys e)) | inr e ↦ e ]
+
+-- so lists of two lengths are not
+pub same_from_length : (xs ys : List ℕ) → (length xs ≡ length ys → ⊥) → false ≡ same_bytes xs ys
+same_from_length xs ys ne = sym (same_from_ne xs ys (λ e. ne (ap length e)))
 
 -- nor are lists with another byte at a place
 pub same_from_place : (xs ys : List ℕ) (i : ℕ) → (get_or xs i 0 ≡ get_or ys i 0 → ⊥) → false ≡ same_bytes xs ys
