@@ -19,7 +19,7 @@ pub fn judge<C: WordCheck>(
     ensures { told (λ x. x) result ≡ found (C.WordCheck.answers check.now) table.entry.settings table.entry.places.now fields word.now }
 {
     let slot = fields.slot();
-    if !check.passes(slot.cabin, slot.phase, slot.value, word) {
+    if !check.passes(slot, word) {
         return Err(Refusal::Word);
     }
     if table.has(slot) {
