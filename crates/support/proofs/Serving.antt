@@ -86,10 +86,10 @@ module _ (s : Settings) (t m m' : List Place) (φ ψ : ℕ) where
       (or_right (has_quorum (hall_of s) u (φ - 2) v) (has_quorum (hall_of s) u (φ - 1) 2)
       (subst (λ (x : ℕ). has_quorum (hall_of s) u x 2 ≡ true) before (carries u within met)))
 
-  pub serves_before : (v k : ℕ) → Converge ≡ kind_of φ → ψ ≡ φ - 1 → k ≡ quorum_of s.cabins s.faults → k ≤ tally s.cabins (records_of s t) ψ 2 → Adds s t ψ ψ k m m' → EnoughFor s t m' ψ 2 k → Serves s t φ most_rule (λ u. meets_value s u φ v) m m'
+  pub serves_before : (v k : ℕ) → Converge ≡ kind_of φ → ψ ≡ φ - 1 → k ≡ quorum_of s.cabins s.faults → true ≡ has_quorum (hall_of s) (records_of s t) ψ 2 → Adds s t ψ ψ k m m' → EnoughFor s t m' ψ 2 k → Serves s t φ most_rule (λ u. meets_value s u φ v) m m'
   serves_before v k kind before is met adds enough = record {
     adds = recent k most_rule (omega arith) (omega arith) (omega (arith, quorum_small s)) adds;
-    carries = by_kind Converge v kind (carries_before v before (le-leb _ _ (omega arith)) (carries_quorum 2 k is enough));
+    carries = by_kind Converge v kind (carries_before v before (sym met) (carries_quorum 2 k is enough));
   }
 
   -- and where it has none
@@ -109,13 +109,11 @@ module _ (s : Settings) (t m m' : List Place) (φ ψ : ℕ) where
             ])
       ]
 
-  pub serves_second : (v k ω : ℕ) → Converge ≡ kind_of φ → ψ ≡ φ - 2 → ω ≡ φ - 1 → k ≡ quorum_of s.cabins s.faults → tally s.cabins (records_of s t) ω 2 < k → Adds s t ψ ψ k m m' → EnoughFor s t m' ψ v k → Serves s t φ most_rule (λ u. meets_value s u φ v) m m'
-  serves_second v k ω kind second before is missed adds enough =
-      let few : has_quorum (hall_of s) (records_of s t) ω 2 ≡ false = lt-leb _ _ (omega arith) in
-      record {
-        adds = recent k most_rule (omega arith) (omega arith) (omega (arith, quorum_small s)) adds;
-        carries = by_kind Converge v kind (carries_second v second (subst (λ (x : ℕ). has_quorum (hall_of s) (records_of s t) x 2 ≡ false) before few) (carries_quorum v k is enough));
-      }
+  pub serves_second : (v k ω : ℕ) → Converge ≡ kind_of φ → ψ ≡ φ - 2 → ω ≡ φ - 1 → k ≡ quorum_of s.cabins s.faults → false ≡ has_quorum (hall_of s) (records_of s t) ω 2 → Adds s t ψ ψ k m m' → EnoughFor s t m' ψ v k → Serves s t φ most_rule (λ u. meets_value s u φ v) m m'
+  serves_second v k ω kind second before is missed adds enough = record {
+    adds = recent k most_rule (omega arith) (omega arith) (omega (arith, quorum_small s)) adds;
+    carries = by_kind Converge v kind (carries_second v second (rw (← before) (sym missed)) (carries_quorum v k is enough));
+  }
 
   -- an undecided record after the first cycle
   carries_undecided : (v : ℕ) → ψ ≡ last_lock φ → 3 < φ → Carries s t m' (λ u. both_held s.cabins s.faults u ψ) → Carries s t m' (λ u. meets_status s u φ v Undecided)

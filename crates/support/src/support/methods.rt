@@ -38,10 +38,6 @@ impl Support {
     pub fn place(&self, index: usize) -> Option<u16>
         ensures { result ≡ place_at (support_places self.now) index }
     {
-        if index < self.len() {
-            Some(self.places[index])
-        } else {
-            None
-        }
+        self.places[..self.len()].get(index).copied()
     }
 }

@@ -1,9 +1,8 @@
 use Rattle.support.proofs.Serving.{serves_decide, serves_lock, serves_none}
-use Rattle.support.proofs.choice.for_value.Goals as goal
+use Rattle.support.proofs.chosen.Chosen.for_value.Goals as goal
 
 pub returns-in-Lock : goal.returns-in-Lock
-returns-in-Lock c =
-    search (serves_lock, c.in-Lock.ensures, c.saturating_sub-before.ensures, c.weak_quorum-weak.ensures, c.lowest.ensures.adds, c.lowest.ensures.enough)
+returns-in-Lock c = search (serves_lock, c.in-Lock.ensures, c.saturating_sub-before.ensures, c.weak_quorum.ensures, c.lowest.ensures.adds, c.lowest.ensures.enough)
 
 pub returns-then-value-eq-NO_PREFERENCE : goal.returns-then-value-eq-NO_PREFERENCE
 returns-then-value-eq-NO_PREFERENCE c =
