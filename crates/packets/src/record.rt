@@ -2,10 +2,10 @@
 ghost use Rattle.std.specs.Prelude.{◌≡◌, length, take, IfOk};
 ghost use Rattle.settings.specs.Refusals.{told};
 ghost use Rattle.packets.specs.Format.{record_size, word_place};
-ghost use Rattle.packets.specs.Records.{fields_answer, head_bytes, highest_value};
+ghost use Rattle.packets.specs.Records.{fields_answer, head_bytes, highest_value, slot_of};
 
 use crate::format::{BRANCH, CABIN, PHASE, STATUS, VALUE, ZERO};
-use settings::{NO_PREFERENCE, PhaseKind, Refusal, Settings, Status};
+use settings::{NO_PREFERENCE, PhaseKind, Refusal, Settings, Slot, Status};
 
 // What a record says besides its word.
 #[derive(Clone, Copy, PartialEq, Eq, Debug)]
@@ -15,6 +15,19 @@ pub struct Fields {
     pub status: Status,
     pub branch: u16,
     pub phase: u16,
+}
+
+impl Fields {
+    // What the record's word and its place of a table belong to.
+    pub fn slot(self) -> Slot
+        ensures { result ≡ slot_of self }
+    {
+        Slot {
+            cabin: self.cabin,
+            phase: self.phase,
+            value: self.value,
+        }
+    }
 }
 
 // The fields of a record's 40 bytes, or why the record is refused.
