@@ -1,5 +1,5 @@
 pub mod Entries
-pub mod Laws
+pub mod Refusing
 pub mod Seats
 pub mod Stages
 pub mod Words

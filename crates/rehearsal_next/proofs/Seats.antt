@@ -18,15 +18,17 @@ use Rattle.moves.specs.Opening.{open_answer}
 use Rattle.moves.specs.declared.state.State.{State}
 use Rattle.cabin_next.specs.Views.{cabin_state}
 use Rattle.cabin_next.specs.declared.cabin.Cabin.{Cabin}
-use Rattle.rehearsal_next.specs.Answers.{Reply, heard_answer}
-use Rattle.rehearsal_next.specs.Seats.{MayAnnounce, SeatView, Turn, Writes, announce_reply, blank, opens_from, packet_bytes, packet_or_none, seat_announces, seat_hears, seat_opens, seat_view}
-use Rattle.rehearsal_next.specs.Settings.{rehearsal_settings}
+use Rattle.script.specs.Answers.{Reply}
+use Rattle.script.specs.Settings.{rehearsal_settings}
+use Rattle.script.specs.Stage.{Turn}
+use Rattle.rehearsal_next.specs.Answers.{heard_answer}
+use Rattle.rehearsal_next.specs.Seats.{MayAnnounce, SeatView, Writes, announce_reply, blank, opens_from, packet_bytes, packet_or_none, seat_announces, seat_hears, seat_opens, seat_view}
 use Rattle.rehearsal_next.specs.Words.{sealer_of, word_check, word_list}
 use Rattle.rehearsal_next.specs.declared.packet.Packet.{Packet}
 use Rattle.rehearsal_next.specs.declared.seat.Seat.{Seat}
 
 -- a seat replied so and is this seat now, as a turn says
-pub record Takes (turn : Turn) (reply : Reply) (seat : SeatView) : Type 0 where
+pub record Takes (turn : Turn SeatView) (reply : Reply) (seat : SeatView) : Type 0 where
   pub reply_is : reply ≡ turn.reply
   pub seat_is : seat ≡ turn.seat
 

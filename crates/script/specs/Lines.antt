@@ -2,18 +2,19 @@
 use Rattle.std.specs.Prelude.{ℕ, List, ◌++◌, Some, None, codes, decimal, Option}
 use Rattle.settings.specs.Kinds.{status_number}
 use Rattle.moves.specs.declared.state.State.{State}
-use Rattle.rehearsal_next.specs.Answers.{Reply, answer_view, shown_number}
-use Rattle.rehearsal_next.specs.declared.line.Line.{Line}
+use Rattle.script.specs.Answers.{Reply, shown_number}
+use Rattle.script.specs.declared.line.Line.{Line}
 
--- the step from 1, the cabin that acts, that cabin's state if it is open, and the reply
+-- the step from 1, the cabin that it names, that cabin's state if it is open, and the reply
 pub record Said : Type 0 where
   pub step : ℕ
   pub cabin : ℕ
   pub state : Option State
   pub reply : Reply
 
-abbrev pub line_said : Line → Said
-line_said l = record { step = l.step; cabin = l.cabin; state = l.state; reply = answer_view l.answer }
+-- by what the rules see of an answer
+abbrev pub line_said : {A : Type 0} → (A → Reply) → Line A → Said
+line_said reply l = record { step = l.step; cabin = l.cabin; state = l.state; reply = reply l.answer }
 
 -- the decision, or "-" where there is none
 abbrev pub decision_text : Option ℕ → List ℕ

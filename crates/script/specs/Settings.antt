@@ -1,8 +1,7 @@
--- What is the same in every rehearsal. Assumes nothing.
-use Rattle.std.specs.Prelude.{ℕ, ◌+◌, List, refl}
+-- The settings of every rehearsal. Assumes nothing.
+use Rattle.std.specs.Prelude.{refl}
 use Rattle.std.proofs.Common.{lit<, lit≤}
 use Rattle.settings.specs.declared.settings.Settings.{Settings}
-use Rattle.coins.specs.Register.{register_bits}
 
 -- four cabins, one of which may be faulty, and the last phase 12
 abbrev pub rehearsal_settings : Settings
@@ -17,7 +16,3 @@ rehearsal_settings = record {
   last = lit≤ tt;
   cycles = refl;
 }
-
--- the coin of cabin i: all the bits of a register that begins with i + 1
-abbrev pub coin_bits : ℕ → List ℕ
-coin_bits i = register_bits (i + 1) 65535

@@ -1,20 +1,14 @@
--- What every step keeps: a refused one changes nothing, and none changes another seat.
-use Rattle.std.proofs.Common.{◌≡◌, ℕ, List, length, Some, None, Ok, Err, Option, Result, sym, refl, ◌∙◌, inl, inr, arith}
-use Rattle.std.proofs.lemmas.List.{get_or-set_other, set-get_or, set_past}
-use Rattle.std.proofs.lemmas.Bool.{cases_lt, lt-ltb}
+-- A step that is refused leaves the seat of the cabin that acts as it was.
+use Rattle.std.proofs.Common.{◌≡◌, ℕ, List, Some, None, Ok, Err, Option, Result, refl, arith}
 use Rattle.moves.specs.Hearing.{Told, hear_answer}
 use Rattle.moves.specs.declared.state.State.{State}
-use Rattle.rehearsal_next.specs.Answers.{Reply}
-use Rattle.rehearsal_next.specs.Laws.{Keeps}
-use Rattle.rehearsal_next.specs.Seats.{SeatView, Turn, announce_reply, announces_as, closed_seat, hears_as, if_open, opens_from, seat_hears_latest}
-use Rattle.rehearsal_next.specs.Stage.{Turned, seat_at, turn}
+use Rattle.script.specs.Stage.{Turn}
+use Rattle.script.proofs.Laws.{Refusing}
+use Rattle.rehearsal_next.specs.Seats.{SeatView, announce_reply, announces_as, hears_as, if_open, opens_from, seat_hears_latest}
+use Rattle.rehearsal_next.specs.Stage.{seat_at, turn}
 use Rattle.rehearsal_next.specs.Words.{claimed, word_check}
 use Rattle.rehearsal_next.specs.declared.step.Step.{Step}
 use Rattle.rehearsal_next.specs.declared.step.Step.TheVariants.{Open, Announce, Hear, HearRecord}
-
--- a turn that refuses leaves the seat as it was
-abbrev Refusing : Turn → SeatView → Type 0
-Refusing t seat = (k : ℕ) → t.reply ≡ Err k → t.seat ≡ seat
 
 accepted : {T : Type 0} (x : Option ℕ) (k : ℕ) → Ok x ≡ Err k → T
 accepted x k e = absurd (grind arith)
@@ -45,25 +39,9 @@ latest_same : (o : Option (List ℕ)) (seat : SeatView) → Refusing (seat_hears
 latest_same None seat k e = refl
 latest_same (Some p) seat k e = hears_same seat.state p seat refl k e
 
-turn_same : (step : Option Step) (i : ℕ) (p : List ℕ) (stage : List SeatView) → Refusing (turn step i p stage) (seat_at stage i)
+pub turn_same : (step : Option Step) (i : ℕ) (p : List ℕ) (stage : List SeatView) → Refusing (turn step i p stage) (seat_at stage i)
 turn_same None i p stage k e = refl
 turn_same (Some (Open v)) i p stage k e = opens_same (seat_at stage i).state _ (seat_at stage i) k e
 turn_same (Some Announce) i p stage k e = announces_same (seat_at stage i).state i p (seat_at stage i) k e
 turn_same (Some (Hear j)) i p stage k e = latest_same (seat_at stage j).packet (seat_at stage i) k e
 turn_same (Some (HearRecord x)) i p stage k e = hears_same (seat_at stage i).state (claimed x) (seat_at stage i) refl k e
-
-refused_same : (i : ℕ) (t : Turn) (reply : Reply) (before after : List SeatView) → Refusing t (seat_at before i) → Turned i t reply before after → (k : ℕ) → reply ≡ Err k → after ≡ before
-refused_same i t reply before after refusing turned k refused =
-    elim (cases_lt i (length before)) [
-      | inl within ↦
-          let seat : t.seat ≡ seat_at before i = refusing k (sym (rw (lt-ltb i (length before) within) at turned.replied) ∙ refused) in
-          turned.left ∙ rw seat (set-get_or before i (closed_seat _))
-      | inr past ↦ turned.left ∙ set_past before i _ past
-    ]
-
--- by what the step's turn led to
-pub keeps_from : (step : Option Step) (i : ℕ) (p : List ℕ) (reply : Reply) (before after : List SeatView) → Turned i (turn step i p before) reply before after → Keeps i reply before after
-keeps_from step i p reply before after turned = record {
-  refused = refused_same i _ reply before after (turn_same step i p before) turned;
-  others = λ j other. rw turned.left (get_or-set_other before i j _ _ other);
-}

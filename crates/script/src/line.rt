@@ -1,19 +1,19 @@
 // The line that a step prints.
 ghost use Rattle.std.specs.Prelude.{Some};
-ghost use Rattle.rehearsal_next.specs.Lines.{decision_text, line_said, said_text, standing_text};
+ghost use Rattle.script.specs.Lines.{decision_text, line_said, said_text, standing_text};
 
-use crate::Answer;
+use crate::Outcome;
 use moves::State;
 use std::fmt;
 
-// What a step did: the step from 1, the cabin that acted (byte 1 of the step), the state of that cabin afterwards if it
-// is open, and how the step was answered.
+// What a step did: the step from 1, byte 1 of the step, the state of that cabin afterwards if it is open,
+// and how the step was answered.
 #[derive(Clone, Copy)]
-pub struct Line {
+pub struct Line<A> {
     pub step: usize,
     pub cabin: u8,
     pub state: Option<State>,
-    pub answer: Answer,
+    pub answer: A,
 }
 
 // A decision, or `-` where there is none.
@@ -43,7 +43,7 @@ impl fmt::Display for Standing {
             Some(state) => {
                 let phase = state.phase;
                 let value = state.value;
-                let status = state.status.number();
+                let status = u8::from(state.status);
                 let decision = Decision(state.decision);
                 write!(f, "{phase} {value} {status} {decision}")
             }
@@ -52,8 +52,8 @@ impl fmt::Display for Standing {
     }
 }
 
-impl fmt::Display for Line {
-    ghost output = { λ l. Some (said_text (line_said l)) };
+impl<A: Outcome> fmt::Display for Line<A> {
+    ghost output = { λ l. Some (said_text (line_said A.reply l)) };
 
     fn fmt<W: fmt::Write>(&self, f: &mut fmt::Formatter<W>) -> fmt::Result {
         let step = self.step;
