@@ -1,6 +1,5 @@
 pub mod Entries
 pub mod Refusing
-pub mod Seats
 pub mod Stages
 pub mod Words
 pub mod Turns

@@ -3,8 +3,8 @@ use Rattle.std.proofs.Common.{◌≡◌, ℕ, List, Some, None, Ok, Err, Option,
 use Rattle.moves.specs.Hearing.{Told, hear_answer}
 use Rattle.moves.specs.declared.state.State.{State}
 use Rattle.script.specs.Stage.{Turn}
-use Rattle.script.proofs.Laws.{Refusing}
-use Rattle.rehearsal_next.specs.Seats.{SeatView, announce_reply, announces_as, hears_as, if_open, opens_from, seat_hears_latest}
+use Rattle.script.proofs.Laws.{Refusing, opens_same}
+use Rattle.rehearsal_next.specs.Seats.{SeatView, announce_reply, announces_as, hears_as, if_open, seat_hears_latest}
 use Rattle.rehearsal_next.specs.Stage.{seat_at, turn}
 use Rattle.rehearsal_next.specs.Words.{claimed, word_check}
 use Rattle.rehearsal_next.specs.declared.step.Step.{Step}
@@ -12,11 +12,6 @@ use Rattle.rehearsal_next.specs.declared.step.Step.TheVariants.{Open, Announce, 
 
 accepted : {T : Type 0} (x : Option ℕ) (k : ℕ) → Ok x ≡ Err k → T
 accepted x k e = absurd (grind arith)
-
-opens_same : (o : Option State) (answer : Result State ℕ) (seat : SeatView) → Refusing (opens_from o answer seat) seat
-opens_same None (Ok c) seat k e = accepted None k e
-opens_same None (Err x) seat k e = refl
-opens_same (Some c) answer seat k e = refl
 
 announces_as_same : (answer : Result (Unit {0}) ℕ) (p : List ℕ) (c : State) (seat : SeatView) → Refusing (announces_as answer p c seat) seat
 announces_as_same (Ok x) p c seat k e = accepted None k e
@@ -41,7 +36,7 @@ latest_same (Some p) seat k e = hears_same seat.state p seat refl k e
 
 pub turn_same : (step : Option Step) (i : ℕ) (p : List ℕ) (stage : List SeatView) → Refusing (turn step i p stage) (seat_at stage i)
 turn_same None i p stage k e = refl
-turn_same (Some (Open v)) i p stage k e = opens_same (seat_at stage i).state _ (seat_at stage i) k e
+turn_same (Some (Open v)) i p stage k e = opens_same (seat_at stage i).state _ _ (seat_at stage i) k e
 turn_same (Some Announce) i p stage k e = announces_same (seat_at stage i).state i p (seat_at stage i) k e
 turn_same (Some (Hear j)) i p stage k e = latest_same (seat_at stage j).packet (seat_at stage i) k e
 turn_same (Some (HearRecord x)) i p stage k e = hears_same (seat_at stage i).state (claimed x) (seat_at stage i) refl k e

@@ -11,7 +11,7 @@ use Rattle.moves.specs.Opening.{open_answer}
 use Rattle.moves.specs.declared.state.State.{State}
 use Rattle.cabin_next.specs.Views.{cabin_state}
 use Rattle.script.specs.Settings.{rehearsal_settings}
-use Rattle.script.specs.Stage.{Turn, refuses}
+use Rattle.script.specs.Stage.{Turn, opens_from, refuses}
 use Rattle.rehearsal_next.specs.Answers.{heard_answer}
 use Rattle.rehearsal_next.specs.Words.{sealing_of, word_check}
 use Rattle.rehearsal_next.specs.declared.packet.Packet.{Packet}
@@ -46,19 +46,9 @@ packet_or_none None = []
 packet_or_none (Some p) = p
 
 -- kind 1: opening cabin i with choice v at branch point 0, unless it is open
-abbrev pub opens_as : Result State ℕ → SeatView → Turn SeatView
-opens_as (Ok c) seat = record {
-  reply = Ok None;
-  seat = record { state = Some c; table = emptied seat.table; packet = seat.packet; bits = seat.bits };
-}
-opens_as (Err k) seat = refuses k seat
-
-abbrev pub opens_from : Option State → Result State ℕ → SeatView → Turn SeatView
-opens_from None answer seat = opens_as answer seat
-opens_from (Some c) answer seat = refuses 19 seat
-
 abbrev pub seat_opens : ℕ → ℕ → SeatView → Turn SeatView
-seat_opens i v seat = opens_from seat.state (open_answer rehearsal_settings i 0 v seat.table) seat
+seat_opens i v seat =
+    opens_from seat.state (open_answer rehearsal_settings i 0 v seat.table) (λ c. record { state = Some c; table = emptied seat.table; packet = seat.packet; bits = seat.bits }) seat
 
 -- what a seat does whose cabin has to be open
 abbrev pub if_open : Option State → (State → Turn SeatView) → SeatView → Turn SeatView

@@ -9,8 +9,5 @@ use coins::RegisterCoin;
 pub(crate) fn coin(cabin: u8) -> RegisterCoin
     ensures { register_coin_bits result ≡ coin_bits cabin }
 {
-    match RegisterCoin::new(u16::from(cabin) + 1) {
-        Ok(coin) => coin,
-        Err(_) => unreachable(),
-    }
+    RegisterCoin::new(u16::from(cabin) + 1).unwrap()
 }

@@ -1,9 +1,10 @@
 -- What every step keeps: a refused one changes nothing, and none changes another seat.
-use Rattle.std.proofs.Common.{◌≡◌, ℕ, List, length, get_or, Err, sym, ◌∙◌, inl, inr}
+use Rattle.std.proofs.Common.{◌≡◌, ℕ, List, length, get_or, Some, None, Ok, Err, Option, Result, sym, refl, ◌∙◌, inl, inr, arith}
 use Rattle.std.proofs.lemmas.List.{get_or-set_other, set-get_or, set_past}
 use Rattle.std.proofs.lemmas.Bool.{cases_lt, lt-ltb}
+use Rattle.moves.specs.declared.state.State.{State}
 use Rattle.script.specs.Answers.{Reply}
-use Rattle.script.specs.Stage.{Keeps, Turn, Turned}
+use Rattle.script.specs.Stage.{Keeps, Turn, Turned, opens_from}
 
 -- a turn that refuses leaves the seat as it was
 abbrev pub Refusing : {V : Type 0} → Turn V → V → Type 0
@@ -24,3 +25,8 @@ keeps_from closed i t reply before after refusing turned = record {
   refused = refused_same closed i t reply before after refusing turned;
   others = λ j other. rw turned.left (get_or-set_other before i j _ _ other);
 }
+
+pub opens_same : {V : Type 0} (o : Option State) (answer : Result State ℕ) (left : State → V) (seat : V) → Refusing (opens_from o answer left seat) seat
+opens_same None (Ok c) left seat k e = absurd (grind arith)
+opens_same None (Err x) left seat k e = refl
+opens_same (Some c) answer left seat k e = refl

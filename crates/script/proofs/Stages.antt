@@ -1,12 +1,17 @@
 -- What a turn of one seat leaves of the seats of a hall.
-use Rattle.std.proofs.Common.{◌≡◌, ℕ, ◌+◌, ◌<◌, ◌≤◌, Bool, true, false, ltb, List, [], ◌∷◌, ◌++◌, map, length, get_or, set, Err, sym, refl, ap, ◌∙◌, arith}
+use Rattle.std.proofs.Common.{◌≡◌, ℕ, ◌+◌, ◌<◌, ◌≤◌, Bool, true, false, ltb, List, [], ◌∷◌, ◌++◌, map, length, get_or, set, is_some, Some, None, Err, Option, sym, refl, ap, ◌∙◌, arith}
 use Rattle.std.proofs.lemmas.List.FromFn.{map-range_with_len_more}
 use Rattle.std.proofs.lemmas.List.{map-set, map_push, get_or-map, get_or_past, get_or-set_same, length-map, set-get_or, set_past}
-use Rattle.std.proofs.lemmas.Bool.{lt-ltb, le-ltb}
+use Rattle.std.proofs.lemmas.Bool.{lt-ltb, le-ltb, true≢false}
 use Rattle.std.specs.List.{range_with_len}
 use Rattle.settings.specs.Refusals.{needs}
 use Rattle.script.specs.Answers.{Reply}
 use Rattle.script.specs.Stage.{Turn, Turned, refuses}
+
+-- a seat that is not open has no cabin
+pub not_open : {C : Type 0} (o : Option C) → is_some o ≡ false → o ≡ None
+not_open None e = refl
+not_open (Some x) e = absurd (true≢false e)
 
 refused_anyway : (inside : Bool) → ◌≡◌ {A = Reply} (Err 19) (needs inside 19 (Err 19))
 refused_anyway true = refl
