@@ -1,4 +1,2 @@
 pub mod Laws
-pub mod Seats
-pub mod Stages
 pub mod Turns

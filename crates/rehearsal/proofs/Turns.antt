@@ -1,10 +1,11 @@
--- One step more of a transcript, and one byte more of a step.
-use Rattle.std.proofs.Common.{◌≡◌, ℕ, ◌+◌, ◌<◌, List, [], ◌∷◌, ◌++◌, length, get_or, set, sym, ◌∙◌, add-one, arith, length-set}
-use Rattle.std.proofs.lemmas.List.Edits.{fill_by_more}
-use Rattle.rehearsal.specs.Lines.{Said, said_text}
-use Rattle.rehearsal.specs.Stage.{SeatView, first_stage, stage_after, step_said}
+-- One step more of a transcript.
+use Rattle.std.proofs.Common.{◌≡◌, ℕ, ◌+◌, List, [], ◌∷◌, ◌++◌, sym, ◌∙◌, add-one}
+use Rattle.script.specs.Lines.{Said, said_text}
+use Rattle.script.specs.Steps.{step_bytes, steps_in}
+use Rattle.rehearsal.specs.Seats.{SeatView}
+use Rattle.rehearsal.specs.Stage.{first_stage, stage_after, step_said}
 use Rattle.rehearsal.specs.Steps.{step_of}
-use Rattle.rehearsal.specs.Transcript.{lines_to, stage_at, step_bytes}
+use Rattle.rehearsal.specs.Transcript.{lines_to, stage_at, transcript_of}
 
 stage_at_more : (input : List ℕ) (k : ℕ) → stage_at input (k + 1) ≡ stage_after (step_of (step_bytes input k)) (stage_at input k)
 unfolding stage_at
@@ -29,7 +30,6 @@ played_more input k stage stage' text text' bs line before bytes said after wrot
   lines = wrote ∙ (rw (before.lines, said, bytes, before.hall) (sym (lines_to_more input k)));
 }
 
--- one byte more of a list that f tells
-pub bytes_more : (f : ℕ → ℕ) (bs : List ℕ) (j b : ℕ) → j < 8 → (length bs ≡ 8) × ((i : ℕ) → i < j → get_or bs i 0 ≡ f i) → b ≡ f j → (length (set bs j b) ≡ 8) × ((i : ℕ) → i < j + 1 → get_or (set bs j b) i 0 ≡ f i)
-bytes_more f bs j b within before here =
-    (length-set bs j b ∙ before.0, rw here (fill_by_more f bs j 0 (omega arith) before.1))
+-- all the steps were played
+pub played_all : (input : List ℕ) (k : ℕ) (stage : List SeatView) (text : List ℕ) → Played input k stage text → k ≡ steps_in input → text ≡ transcript_of input
+played_all input k stage text played all = rw all at played.lines

@@ -1,6 +1,4 @@
-pub mod Laws
-pub mod Lines
-pub mod Settings
+pub mod Seats
 pub mod Stage
 pub mod Steps
 pub mod Transcript

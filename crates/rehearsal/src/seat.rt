@@ -1,14 +1,13 @@
 // One cabin of a rehearsal, with the table that it is lent.
 ghost use Rattle.std.specs.Prelude.{◌≡◌, IfOk};
-ghost use Rattle.settings.specs.Refusals.{answer_number, told_number};
-ghost use Rattle.rehearsal.specs.Stage.{closed_seat, seat_after, seat_answer, seat_view};
+ghost use Rattle.script.specs.Answers.{done_reply};
+ghost use Rattle.rehearsal.specs.Seats.{closed_seat, seat_opens, seat_view};
 
-use cabin::{Cabin, Place, State};
-use settings::{Refusal, Settings};
+use cabin_next::Cabin;
+use moves::State;
+use settings::Refusal;
 use std::alloc::{AllocError, Global};
-
-// The branch point of every rehearsal.
-const BRANCH: u16 = 0;
+use table::Place;
 
 // A seat holds a cabin once it is open, and its table.
 #[derive(Drop)]
@@ -19,37 +18,31 @@ pub(crate) struct Seat {
 
 impl Seat {
     // A seat whose cabin is not open, with an empty table.
-    pub(crate) fn new(heap: Global, settings: &Settings) -> Result<Seat, AllocError>
-        ensures { IfOk result (λ s. seat_view s ≡ closed_seat settings.now) }
+    pub(crate) fn new(heap: Global) -> Result<Seat, AllocError>
+        ensures { IfOk result (λ s. seat_view s ≡ closed_seat) }
     {
-        let table = vec![in heap; Place::Empty; cabin::places(settings)]?;
+        let table = vec![in heap; Place::Empty; table::places(&script::settings())]?;
         Ok(Seat { cabin: None, table })
     }
 
-    // Opens the seat's cabin, which must not be open.
-    pub(crate) fn open(&mut self, settings: Settings, number: u8, choice: u8) -> Result<(), Refusal>
-        ensures answer { answer_number result ≡ told_number (seat_answer settings number choice (seat_view self.old)) }
-        ensures after { seat_view self.new ≡ seat_after (seat_answer settings number choice (seat_view self.old)) (seat_view self.old) }
+    // Opens the seat's cabin, unless it is open.
+    pub(crate) fn open(&mut self, number: u8, choice: u8) -> Result<(), Refusal>
+        ensures reply { done_reply result ≡ (seat_opens number choice (seat_view self.old)).reply }
+        ensures after { seat_view self.new ≡ (seat_opens number choice (seat_view self.old)).seat }
     {
         if self.cabin.is_some() {
             return Err(Refusal::Step);
         }
-        match Cabin::open(settings, number, BRANCH, choice, self.table.as_mut_slice()) {
-            Ok(cabin) => {
-                self.cabin = Some(cabin);
-                Ok(())
-            }
-            Err(refusal) => Err(refusal),
-        }
+        let table = self.table.as_mut_slice();
+        let cabin = Cabin::open(script::settings(), number, script::BRANCH, choice, table)?;
+        self.cabin = Some(cabin);
+        Ok(())
     }
 
     // The state of the seat's cabin, if it is open.
     pub(crate) fn state(&self) -> Option<State>
         ensures { result ≡ (seat_view self.now).state }
     {
-        match &self.cabin {
-            Some(cabin) => Some(cabin.state()),
-            None => None,
-        }
+        self.cabin.as_ref().map(|cabin| cabin.state())
     }
 }

@@ -1,6 +1,5 @@
 pub mod Entries
-pub mod Laws
-pub mod Seats
+pub mod Refusing
 pub mod Stages
 pub mod Words
 pub mod Turns

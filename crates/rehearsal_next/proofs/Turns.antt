@@ -1,24 +1,25 @@
--- One step, one step more of a transcript, and one byte more of a step.
-use Rattle.std.proofs.Common.{◌≡◌, ℕ, zero, suc, ◌+◌, ◌<◌, cond, eqb, List, [], ◌∷◌, ◌++◌, length, get_or, set, Option, sym, refl, ◌∙◌, subst, inl, inr, add-one, arith, length-set}
-use Rattle.std.proofs.lemmas.List.Edits.{fill_by_more}
+-- One step, and one step more of a transcript.
+use Rattle.std.proofs.Common.{◌≡◌, ℕ, zero, suc, ◌+◌, ◌<◌, cond, eqb, List, [], ◌∷◌, ◌++◌, Option, sym, refl, ◌∙◌, subst, inl, inr, add-one, arith}
 use Rattle.std.proofs.lemmas.Bool.{cases_eq, eq-eqb, ne_eqb}
 use Rattle.moves.specs.declared.state.State.{State}
-use Rattle.rehearsal_next.specs.Answers.{Reply}
-use Rattle.rehearsal_next.specs.Laws.{Keeps}
-use Rattle.rehearsal_next.specs.Lines.{Said, said_text}
-use Rattle.rehearsal_next.specs.Seats.{SeatView}
-use Rattle.rehearsal_next.specs.Stage.{MayWrite, Turned, first_stage, seat_at, step_said, turn}
-use Rattle.rehearsal_next.specs.Steps.{actor, step_of}
-use Rattle.rehearsal_next.specs.Transcript.{LawfulAt, LawfulTo, Packets, lines_to, stage_at, stage_next, step_bytes}
+use Rattle.script.specs.Answers.{Reply}
+use Rattle.script.specs.Lines.{Said, said_text}
+use Rattle.script.specs.Stage.{Keeps, Turned}
+use Rattle.script.specs.Steps.{actor, step_bytes, steps_in}
+use Rattle.script.proofs.Laws.{keeps_from}
+use Rattle.rehearsal_next.specs.Seats.{SeatView, closed_seat}
+use Rattle.rehearsal_next.specs.Stage.{MayWrite, first_stage, seat_at, step_said, turn}
+use Rattle.rehearsal_next.specs.Steps.{step_of}
+use Rattle.rehearsal_next.specs.Transcript.{LawfulAt, LawfulTo, Packets, Transcript, lines_to, stage_at, stage_next}
 use Rattle.rehearsal_next.specs.declared.step.Step.{Step}
-use Rattle.rehearsal_next.proofs.Laws.{keeps_from}
+use Rattle.rehearsal_next.proofs.Refusing.{turn_same}
 
 -- a step of the bytes bs, which wrote p, said this line and led from the seats before to the seats after
 pub record Stepped (k : ℕ) (bs p : List ℕ) (line : Said) (before after : List SeatView) : Type 0 where
   pub line_is : line ≡ step_said k bs p before
   pub after_is : after ≡ stage_next bs p before
   pub lawful : MayWrite (step_of bs) (actor bs) before p
-  pub keeps : Keeps (actor bs) line.reply before after
+  pub keeps : Keeps (closed_seat []) (actor bs) line.reply before after
 
 pub stepped : (k : ℕ) (bs p : List ℕ) (step : Option Step) (reply : Reply) (state : Option State) (before after : List SeatView) → step ≡ step_of bs → Turned (actor bs) (turn step (actor bs) p before) reply before after → MayWrite step (actor bs) before p → state ≡ (seat_at after (actor bs)).state → Stepped k bs p (record { step = k; cabin = actor bs; state = state; reply = reply }) before after
 stepped k bs p step reply state before after read turned lawful shown =
@@ -27,7 +28,7 @@ stepped k bs p step reply state before after read turned lawful shown =
       line_is = rw (shown, left, turned.replied, read) refl;
       after_is = left;
       lawful = rw (← read) lawful;
-      keeps = keeps_from step (actor bs) p reply before after turned;
+      keeps = keeps_from (closed_seat []) (actor bs) (turn step (actor bs) p before) reply before after (turn_same step (actor bs) p before) turned;
     }
 
 -- the packets, of which the one of step k is p
@@ -128,7 +129,10 @@ module _ (input : List ℕ) (k : ℕ) (stage stage' : List SeatView) (text text'
   pub played_more : Played input (k + 1) stage' text'
   played_more = record { packets = next; lawful = lawful_next; hall = stage_more; lines = lines_more }
 
--- one byte more of a list that f tells
-pub bytes_more : (f : ℕ → ℕ) (bs : List ℕ) (j b : ℕ) → j < 8 → (length bs ≡ 8) × ((i : ℕ) → i < j → get_or bs i 0 ≡ f i) → b ≡ f j → (length (set bs j b) ≡ 8) × ((i : ℕ) → i < j + 1 → get_or (set bs j b) i 0 ≡ f i)
-bytes_more f bs j b within before here =
-    (length-set bs j b ∙ before.0, rw here (fill_by_more f bs j 0 (omega arith) before.1))
+-- all the steps were played
+pub played_all : (input : List ℕ) (k : ℕ) (stage : List SeatView) (text : List ℕ) → Played input k stage text → k ≡ steps_in input → Transcript input text
+played_all input k stage text played all = record {
+  packets = played.packets;
+  lawful = rw all at played.lawful;
+  lines = rw all at played.lines;
+}

@@ -4,7 +4,7 @@ use Rattle.std.proofs.lemmas.List.{length-append}
 use Rattle.std.proofs.lemmas.Bool.{eq-eqb}
 use Rattle.settings.specs.declared.settings.Settings.{Settings}
 use Rattle.words.specs.Checks.{list_answer}
-use Rattle.rehearsal_next.specs.Settings.{rehearsal_settings}
+use Rattle.script.specs.Settings.{rehearsal_settings}
 use Rattle.rehearsal_next.specs.Words.{word_list, word_of, words_to}
 
 words_more_at : (k : ℕ) → words_to (k + 1) ≡ words_to k ++ word_of (k % 12 / 3) (k / 12 + 1) (k % 3)

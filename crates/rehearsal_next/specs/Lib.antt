@@ -1,8 +1,6 @@
 pub mod Answers
-pub mod Laws
-pub mod Lines
+pub mod Coins
 pub mod Seats
-pub mod Settings
 pub mod Stage
 pub mod Steps
 pub mod Transcript

@@ -10,8 +10,9 @@ use Rattle.moves.specs.Hearing.{Told, hear_answer, hear_bits, hear_state, hear_t
 use Rattle.moves.specs.Opening.{open_answer}
 use Rattle.moves.specs.declared.state.State.{State}
 use Rattle.cabin_next.specs.Views.{cabin_state}
-use Rattle.rehearsal_next.specs.Answers.{Reply, heard_answer}
-use Rattle.rehearsal_next.specs.Settings.{rehearsal_settings}
+use Rattle.script.specs.Settings.{rehearsal_settings}
+use Rattle.script.specs.Stage.{Turn, opens_from, refuses}
+use Rattle.rehearsal_next.specs.Answers.{heard_answer}
 use Rattle.rehearsal_next.specs.Words.{sealing_of, word_check}
 use Rattle.rehearsal_next.specs.declared.packet.Packet.{Packet}
 use Rattle.rehearsal_next.specs.declared.seat.Seat.{Seat}
@@ -44,32 +45,13 @@ abbrev pub packet_or_none : Option (List ℕ) → List ℕ
 packet_or_none None = []
 packet_or_none (Some p) = p
 
--- how a seat replies to a step, and what it is then
-pub record Turn : Type 0 where
-  pub reply : Reply
-  pub seat : SeatView
-
--- a refused step leaves the seat as it was
-abbrev pub refuses : ℕ → SeatView → Turn
-refuses k seat = record { reply = Err k; seat = seat }
-
 -- kind 1: opening cabin i with choice v at branch point 0, unless it is open
-abbrev pub opens_as : Result State ℕ → SeatView → Turn
-opens_as (Ok c) seat = record {
-  reply = Ok None;
-  seat = record { state = Some c; table = emptied seat.table; packet = seat.packet; bits = seat.bits };
-}
-opens_as (Err k) seat = refuses k seat
-
-abbrev pub opens_from : Option State → Result State ℕ → SeatView → Turn
-opens_from None answer seat = opens_as answer seat
-opens_from (Some c) answer seat = refuses 19 seat
-
-abbrev pub seat_opens : ℕ → ℕ → SeatView → Turn
-seat_opens i v seat = opens_from seat.state (open_answer rehearsal_settings i 0 v seat.table) seat
+abbrev pub seat_opens : ℕ → ℕ → SeatView → Turn SeatView
+seat_opens i v seat =
+    opens_from seat.state (open_answer rehearsal_settings i 0 v seat.table) (λ c. record { state = Some c; table = emptied seat.table; packet = seat.packet; bits = seat.bits }) seat
 
 -- what a seat does whose cabin has to be open
-abbrev pub if_open : Option State → (State → Turn) → SeatView → Turn
+abbrev pub if_open : Option State → (State → Turn SeatView) → SeatView → Turn SeatView
 if_open None does seat = refuses 19 seat
 if_open (Some c) does seat = does c
 
@@ -81,14 +63,14 @@ abbrev pub announce_reply : ℕ → State → List Place → Result (Unit {0}) �
 announce_reply i c t = announce_answer c t (sealing_of i) blank
 
 -- kind 2: cabin i announces, and writes the packet p
-abbrev pub announces_as : Result (Unit {0}) ℕ → List ℕ → State → SeatView → Turn
+abbrev pub announces_as : Result (Unit {0}) ℕ → List ℕ → State → SeatView → Turn SeatView
 announces_as (Ok x) p c seat = record {
   reply = Ok None;
   seat = record { state = Some (marked c); table = seat.table; packet = Some p; bits = seat.bits };
 }
 announces_as (Err k) p c seat = refuses k seat
 
-abbrev pub seat_announces : ℕ → List ℕ → SeatView → Turn
+abbrev pub seat_announces : ℕ → List ℕ → SeatView → Turn SeatView
 seat_announces i p seat = if_open seat.state (λ c. announces_as (announce_reply i c seat.table) p c seat) seat
 
 -- The packet p is one that cabin i may write: the first bytes of what announcing made of the buffer.
@@ -111,7 +93,7 @@ abbrev pub MayAnnounce : ℕ → SeatView → List ℕ → Type 0
 MayAnnounce i seat p = may_write seat.state i seat.table p
 
 -- hearing the packet p
-abbrev pub hears_as : State → List ℕ → SeatView → Result Told ℕ → Turn
+abbrev pub hears_as : State → List ℕ → SeatView → Result Told ℕ → Turn SeatView
 hears_as c p seat answer = record {
   reply = heard_answer answer;
   seat = record {
@@ -122,10 +104,10 @@ hears_as c p seat answer = record {
   };
 }
 
-abbrev pub seat_hears : List ℕ → SeatView → Turn
+abbrev pub seat_hears : List ℕ → SeatView → Turn SeatView
 seat_hears p seat = if_open seat.state (λ c. hears_as c p seat (hear_answer word_check c seat.table p seat.bits)) seat
 
 -- kind 3: hearing the latest packet of a cabin, if it has one
-abbrev pub seat_hears_latest : Option (List ℕ) → SeatView → Turn
+abbrev pub seat_hears_latest : Option (List ℕ) → SeatView → Turn SeatView
 seat_hears_latest None seat = refuses 19 seat
 seat_hears_latest (Some p) seat = seat_hears p seat

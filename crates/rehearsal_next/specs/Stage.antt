@@ -2,11 +2,13 @@
 use Rattle.std.specs.Prelude.{◌≡◌, ℕ, List, [], map, length, Some, None, vec_items, Option, nat_lt, slice_index_or, slice_set}
 use Rattle.std.specs.List.{range_with_len}
 use Rattle.settings.specs.Refusals.{needs}
-use Rattle.rehearsal_next.specs.Answers.{Reply}
-use Rattle.rehearsal_next.specs.Lines.{Said}
-use Rattle.rehearsal_next.specs.Seats.{MayAnnounce, SeatView, Turn, closed_seat, packet_or_none, refuses, seat_announces, seat_hears, seat_hears_latest, seat_opens, seat_view}
-use Rattle.rehearsal_next.specs.Settings.{coin_bits}
-use Rattle.rehearsal_next.specs.Steps.{actor, step_of}
+use Rattle.script.specs.Answers.{Reply}
+use Rattle.script.specs.Lines.{Said}
+use Rattle.script.specs.Stage.{Turn, refuses}
+use Rattle.script.specs.Steps.{actor}
+use Rattle.rehearsal_next.specs.Seats.{MayAnnounce, SeatView, closed_seat, packet_or_none, seat_announces, seat_hears, seat_hears_latest, seat_opens, seat_view}
+use Rattle.rehearsal_next.specs.Coins.{coin_bits}
+use Rattle.rehearsal_next.specs.Steps.{step_of}
 use Rattle.rehearsal_next.specs.Words.{claimed}
 use Rattle.rehearsal_next.specs.declared.hall.Hall.{Hall}
 use Rattle.rehearsal_next.specs.declared.step.Step.{Step}
@@ -28,14 +30,14 @@ abbrev pub first_stage : List SeatView
 first_stage = map first_seat (range_with_len 0 4)
 
 -- what a step does to the seat of cabin i, which acts; p is the packet that an accepted announce writes
-abbrev pub step_turn : Step → ℕ → List ℕ → List SeatView → SeatView → Turn
+abbrev pub step_turn : Step → ℕ → List ℕ → List SeatView → SeatView → Turn SeatView
 step_turn (Open v) i p stage seat = seat_opens i v seat
 step_turn Announce i p stage seat = seat_announces i p seat
 step_turn (Hear j) i p stage seat = seat_hears_latest (seat_at stage j).packet seat
 step_turn (HearRecord x) i p stage seat = seat_hears (claimed x) seat
 
 -- bytes that say no step are refused with 19
-abbrev pub turn : Option Step → ℕ → List ℕ → List SeatView → Turn
+abbrev pub turn : Option Step → ℕ → List ℕ → List SeatView → Turn SeatView
 turn None i p stage = refuses 19 (seat_at stage i)
 turn (Some step) i p stage = step_turn step i p stage (seat_at stage i)
 
@@ -46,11 +48,6 @@ stage_reply step i p stage = needs (nat_lt i (length stage)) 19 (turn step i p s
 -- the seats after a step
 abbrev pub stage_after : Option Step → ℕ → List ℕ → List SeatView → List SeatView
 stage_after step i p stage = slice_set stage i (turn step i p stage).seat
-
--- what cabin i's turn t led to: this reply, and from the seats before to the seats after
-pub record Turned (i : ℕ) (t : Turn) (reply : Reply) (before after : List SeatView) : Type 0 where
-  pub replied : reply ≡ needs (nat_lt i (length before)) 19 t.reply
-  pub left : after ≡ slice_set before i t.seat
 
 -- the packet p is one that the step may write
 abbrev pub MayWrite : Option Step → ℕ → List SeatView → List ℕ → Type 0

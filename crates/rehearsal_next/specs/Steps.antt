@@ -1,26 +1,9 @@
 -- What a step of eight bytes asks for. Assumes nothing.
-use Rattle.std.specs.Prelude.{ℕ, Bool, cond, ◌&&◌, List, Some, None, Option, ◌==◌, slice_index}
+use Rattle.std.specs.Prelude.{ℕ, Bool, cond, ◌&&◌, List, Some, None, Option}
+use Rattle.script.specs.Steps.{byte, kind, opens, unused}
 use Rattle.rehearsal_next.specs.declared.claim.Claim.{Claim}
 use Rattle.rehearsal_next.specs.declared.step.Step.{Step}
 use Rattle.rehearsal_next.specs.declared.step.Step.TheVariants.{Open, Announce, Hear, HearRecord}
-
--- byte j of a step
-abbrev pub byte : List ℕ → ℕ → ℕ
-byte bs j = slice_index bs j
-
--- the cabin that acts
-abbrev pub actor : List ℕ → ℕ
-actor bs = byte bs 1
-
-abbrev pub unused : List ℕ → ℕ → Bool
-unused bs j = byte bs j == 0
-
-abbrev pub kind : List ℕ → ℕ → Bool
-kind bs k = byte bs 0 == k
-
--- kind 1: open; byte 4 is the choice
-abbrev pub opens : List ℕ → Bool
-opens bs = kind bs 1 && (unused bs 2 && (unused bs 3 && (unused bs 5 && (unused bs 6 && unused bs 7))))
 
 -- kind 2: announce
 abbrev pub announces : List ℕ → Bool

@@ -1,18 +1,10 @@
 -- The text that a whole input prints. Assumes nothing.
-use Rattle.std.specs.Prelude.{◌≡◌, ℕ, zero, suc, ◌+◌, ◌*◌, ◌/◌, ◌%◌, ◌<◌, min, List, [], ◌∷◌, ◌++◌, map, length, slice_index_or}
-use Rattle.std.specs.List.{range_with_len}
-use Rattle.rehearsal_next.specs.Lines.{said_text}
+use Rattle.std.specs.Prelude.{◌≡◌, ℕ, zero, suc, ◌<◌, List, [], ◌∷◌, ◌++◌}
+use Rattle.script.specs.Lines.{said_text}
+use Rattle.script.specs.Steps.{actor, step_bytes, steps_in}
 use Rattle.rehearsal_next.specs.Seats.{SeatView}
 use Rattle.rehearsal_next.specs.Stage.{MayWrite, first_stage, stage_after, step_said}
-use Rattle.rehearsal_next.specs.Steps.{actor, step_of}
-
--- how many steps an input has; a cut last one counts
-abbrev pub steps_in : List ℕ → ℕ
-steps_in input = length input / 8 + min 1 (length input % 8)
-
--- the eight bytes of step k from 0; past the end of the input each is 255
-unfoldable pub step_bytes : List ℕ → ℕ → List ℕ
-step_bytes input k = map (λ j. slice_index_or input (8 * k + j) 255) (range_with_len 0 8)
+use Rattle.rehearsal_next.specs.Steps.{step_of}
 
 -- the packets that the steps write, by the number of the step from 0; only those of accepted announces matter
 abbrev pub Packets : Type 0

@@ -5,7 +5,7 @@ use Rattle.words.specs.Sealers.{PlainView, empty_plain, make_plain, place_after,
 use Rattle.words.specs.Words.{zero_word}
 use Rattle.moves.specs.Announcing.{Sealing, sealing}
 use Rattle.moves.specs.Judging.{Check}
-use Rattle.rehearsal_next.specs.Settings.{rehearsal_settings}
+use Rattle.script.specs.Settings.{rehearsal_settings}
 use Rattle.rehearsal_next.specs.declared.claim.Claim.{Claim}
 
 -- the word for cabin i, phase φ and value v: these three bytes and 29 zeros

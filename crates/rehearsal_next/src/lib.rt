@@ -3,18 +3,17 @@
 
 mod answer;
 mod claim;
-mod fixed;
+mod coin;
 mod hall;
-mod line;
 mod packet;
 mod run;
 mod seat;
 mod step;
 mod wordlist;
 
-pub use answer::Answer;
+pub use answer::{Answer, Line};
 pub use claim::Claim;
 pub use hall::Hall;
-pub use line::Line;
 pub use run::transcript;
+pub use script::Outcome;
 pub use step::Step;

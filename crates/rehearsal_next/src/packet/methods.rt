@@ -25,10 +25,8 @@ impl Packet {
         ensures packet { IfOk result (λ p. Writes number (cabin_state cabin.old) table.now (packet_bytes p)) }
     {
         let mut bytes = [0; LONGEST_PACKET];
-        match cabin.announce(table, &words.sealer(number), &mut bytes) {
-            Ok(size) => Ok(Packet { bytes, size }),
-            Err(refusal) => Err(refusal),
-        }
+        let size = cabin.announce(table, &words.sealer(number), &mut bytes)?;
+        Ok(Packet { bytes, size })
     }
 
     // The bytes of the packet.

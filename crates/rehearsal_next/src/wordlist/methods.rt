@@ -5,7 +5,6 @@ ghost use Rattle.words.specs.Sealers.{plain_sealer_view};
 ghost use Rattle.rehearsal_next.specs.Words.{claimed, sealer_of, word_list, word_of, word_or_zeros};
 
 use crate::Claim;
-use crate::fixed::settings;
 use crate::wordlist::Words;
 use packets::RECORD_SIZE;
 use std::alloc::{AllocError, Global};
@@ -32,7 +31,7 @@ impl Words {
     pub(crate) fn check<'a>(&'a self) -> PlainList<'a>
         ensures { plain_view result ≡ word_list }
     {
-        match PlainList::new(&settings(), self.entries.as_slice()) {
+        match PlainList::new(&script::settings(), self.entries.as_slice()) {
             Ok(list) => list,
             Err(_) => unreachable(),
         }
@@ -43,7 +42,7 @@ impl Words {
         ensures { plain_sealer_view result ≡ sealer_of cabin }
     {
         let mut sealer = PlainSealer::empty();
-        let _ = sealer.make(&settings(), cabin, self.entries.as_slice());
+        let _ = sealer.make(&script::settings(), cabin, self.entries.as_slice());
         sealer
     }
 

@@ -1,13 +1,12 @@
-use Rattle.rehearsal.proofs.Stages.{opened_at, opened_past}
+use Rattle.std.proofs.Common.{◌≡◌, Some, ap, ◌∙◌}
+use Rattle.std.specs.Result.{result_ok}
+use Rattle.script.proofs.Stages.{turned_at}
+use Rattle.rehearsal.specs.Seats.{closed_seat, seat_opens, seat_view}
 use Rattle.rehearsal.proofs.hall.Hall.open.Goals as goal
 
-pub returns-in-Some : goal.returns-in-Some
-returns-in-Some c =
-    let e = c.in-Some.ensures.item in
-    let p = opened_at _ _ _ c.args.cabin c.args.choice _ _ _ c.from.ensures c.settings.ensures e.3.0 e.1 (cc) (cc) in
-    record { answer = p.answer; after = p.after }
-
-pub returns-in-None : goal.returns-in-None
-returns-in-None c =
-    let p = opened_past _ _ _ c.args.choice c.from.ensures c.in-None.ensures.item.3 in
-    record { answer = p.answer; after = p.after }
+pub returns : goal.returns
+returns c =
+    let found : c.get_mut.result ≡ Some c.in_ok-seat.seat = c.ok_or.ensures.ok_part ∙ ap result_ok c.in_ok-seat.was in
+    let e = rw found at c.get_mut.ensures.item in
+    let p = turned_at seat_view closed_seat _ _ _ (seat_opens c.args.cabin c.args.choice) _ _ _ c.from.ensures e.3.0 e.1 c.open.ensures.reply c.open.ensures.after in
+    record { reply = p.replied; after = p.left }

@@ -1,10 +1,5 @@
-use Rattle.std.proofs.Common.{rules}
-use Rattle.rehearsal.proofs.Laws.{keeps_from}
+use Rattle.rehearsal.proofs.Laws.{keeps_by}
 use Rattle.rehearsal.proofs.hall.Hall.step.Goals as goal
 
-pub returns : goal.returns
-returns c = record {
-  line = search rules;
-  after = search rules;
-  keeps = keeps_from _ _ _ _ _ c.read.ensures c.act-answer.ensures.answer c.act-answer.ensures.after;
-}
+pub returns-clause-keeps : goal.returns-clause-keeps
+returns-clause-keeps c = keeps_by c.args.bytes _ _ _ _ c.read.ensures c.act-answer.ensures.reply c.act-answer.ensures.after

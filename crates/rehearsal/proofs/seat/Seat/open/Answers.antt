@@ -1,15 +1,10 @@
-use Rattle.std.proofs.Common.{Ok, Err}
-use Rattle.rehearsal.proofs.Seats.{opened_from}
+use Rattle.std.proofs.Common.{◌≡◌, vec_items, sym, ◌∙◌, arith}
+use Rattle.std.proofs.lemmas.Grind.{common_steps}
+use Rattle.script.proofs.Stages.{not_open}
 use Rattle.rehearsal.proofs.seat.Seat.open.Goals as goal
 
-pub returns-in-Ok : goal.returns-in-Ok
-returns-in-Ok c =
-    let e = c.in-Ok.ensures in
-    let p = opened_from c.args.settings c.args.number c.args.choice c.args.self.now c.as_mut_slice.result.now c.open.new.table (Ok c.in-Ok.cabin) (cc) c.as_mut_slice.ensures.value c.open.auto.table e.answer e.table in
-    record { answer = p.answer; after = cc p.view }
-
-pub returns-in-Err : goal.returns-in-Err
-returns-in-Err c =
-    let e = c.in-Err.ensures in
-    let p = opened_from c.args.settings c.args.number c.args.choice c.args.self.now c.as_mut_slice.result.now c.open.new.table (Err c.in-Err.refusal) (cc) c.as_mut_slice.ensures.value c.open.auto.table e.answer e.table in
-    record { answer = p.answer; after = p.view }
+pub returns-in_err-cabin-clause-after : goal.returns-in_err-cabin-clause-after
+returns-in_err-cabin-clause-after c =
+    let shut = not_open _ (sym c.if-is_some.ensures) in
+    let same : c.open.new.table ≡ vec_items c.args.self.now.table = c.in_err-cabin.ensures.table ∙ c.as_mut_slice-table.ensures.value in
+    grind (arith, common_steps)

@@ -1,12 +1,11 @@
-use Rattle.rehearsal_next.specs.Seats.{seat_hears}
-use Rattle.rehearsal_next.proofs.Stages.{turned_at, turned_past}
+use Rattle.std.proofs.Common.{◌≡◌, [], Some, ap, ◌∙◌}
+use Rattle.std.specs.Result.{result_ok}
+use Rattle.script.proofs.Stages.{turned_at}
+use Rattle.rehearsal_next.specs.Seats.{closed_seat, seat_hears, seat_view}
 use Rattle.rehearsal_next.proofs.hall.Hall.hear_packet.Goals as goal
 
-pub returns-in-Some : goal.returns-in-Some
-returns-in-Some c =
-    let e = c.in-Some.ensures.item in
-    turned_at _ _ _ (seat_hears c.args.packet.now) _ _ _ c.from.ensures e.3.0 e.1 c.hear.ensures.reply c.hear.ensures.after
-
-pub returns-in-None : goal.returns-in-None
-returns-in-None c =
-    turned_past _ _ _ (seat_hears c.args.packet.now) c.from.ensures c.in-None.ensures.item.3
+pub returns : goal.returns
+returns c =
+    let found : c.get_mut.result ≡ Some c.in_ok-seat.seat = c.ok_or.ensures.ok_part ∙ ap result_ok c.in_ok-seat.was in
+    let e = rw found at c.get_mut.ensures.item in
+    turned_at seat_view (closed_seat []) _ _ _ (seat_hears c.args.packet.now) _ _ _ c.from.ensures e.3.0 e.1 c.hear.ensures.reply c.hear.ensures.after

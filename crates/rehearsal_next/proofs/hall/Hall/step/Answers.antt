@@ -1,5 +1,5 @@
 use Rattle.rehearsal_next.specs.Stage.{latest, stage_of}
-use Rattle.rehearsal_next.specs.Steps.{actor}
+use Rattle.script.specs.Steps.{actor}
 use Rattle.rehearsal_next.proofs.Turns.{stepped}
 use Rattle.rehearsal_next.proofs.hall.Hall.step.Goals as goal
 

@@ -1,9 +1,10 @@
-use Rattle.std.proofs.Common.{sym}
-use Rattle.rehearsal_next.proofs.Seats.{open_refused}
+use Rattle.std.proofs.Common.{◌≡◌, vec_items, sym, ◌∙◌, arith}
+use Rattle.std.proofs.lemmas.Grind.{common_steps}
+use Rattle.script.proofs.Stages.{not_open}
 use Rattle.rehearsal_next.proofs.seat.Seat.open.Goals as goal
 
-pub returns-in-Err : goal.returns-in-Err
-returns-in-Err c =
-    let e = c.in-Err.ensures in
-    let p = open_refused _ _ c.args.self.now _ _ _ _ (sym c.if-is_some.ensures) c.settings.ensures c.as_mut_slice-table.ensures.value c.open.auto.table e.answer e.table in
-    record { reply = p.reply_is; after = p.seat_is }
+pub returns-in_err-cabin-clause-after : goal.returns-in_err-cabin-clause-after
+returns-in_err-cabin-clause-after c =
+    let shut = not_open _ (sym c.if-is_some.ensures) in
+    let same : c.open.new.table ≡ vec_items c.args.self.now.table = c.in_err-cabin.ensures.table ∙ c.as_mut_slice-table.ensures.value in
+    grind (arith, common_steps)

@@ -1,0 +1,5 @@
+pub mod Answers
+pub mod Lines
+pub mod Settings
+pub mod Stage
+pub mod Steps
