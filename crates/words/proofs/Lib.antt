@@ -1,8 +1,7 @@
+pub mod Bits
 pub mod Blocks
 pub mod Bytes
-pub mod Choice
 pub mod Entries
-pub mod Majority
 pub mod Own
 pub mod Rounds
 pub mod Schedule

@@ -6,7 +6,7 @@ ghost use Rattle.words.specs.Padding.{word, words};
 ghost use Rattle.words.specs.Running.{Running};
 
 use super::constants::constant;
-use super::functions::{big_sigma0, big_sigma1, ch, maj, small_sigma0, small_sigma1};
+use super::functions::{big_sigma, ch, maj, small_sigma};
 
 // The next hash value, from the hash value before and a block.
 pub(super) fn compress(hash: [u32; 8], block: &[u8]) -> [u32; 8]
@@ -47,9 +47,9 @@ fn next_word(w: &[u32; 64], t: usize) -> u32
     requires { (16 ≤ t) × (t < 64) }
     ensures { result ≡ next_word w.now t }
 {
-    small_sigma1(w[t - 2])
+    small_sigma::<17, 19, 10>(w[t - 2])
         .wrapping_add(w[t - 7])
-        .wrapping_add(small_sigma0(w[t - 15]))
+        .wrapping_add(small_sigma::<7, 18, 3>(w[t - 15]))
         .wrapping_add(w[t - 16])
 }
 
@@ -60,11 +60,11 @@ fn round(v: [u32; 8], k: u32, w: u32) -> [u32; 8]
 {
     let [a, b, c, d, e, f, g, h] = v;
     let t1 = h
-        .wrapping_add(big_sigma1(e))
+        .wrapping_add(big_sigma::<6, 11, 25>(e))
         .wrapping_add(ch(e, f, g))
         .wrapping_add(k)
         .wrapping_add(w);
-    let t2 = big_sigma0(a).wrapping_add(maj(a, b, c));
+    let t2 = big_sigma::<2, 13, 22>(a).wrapping_add(maj(a, b, c));
     [t1.wrapping_add(t2), a, b, c, d.wrapping_add(t1), e, f, g]
 }
 
