@@ -10,9 +10,9 @@ pub(crate) fn hex(heap: Global, bytes: &[u8]) -> Result<String, AllocError>
     ensures { IfOk result (λ t. string_bytes t ≡ hex_text bytes.now) }
 {
     let mut text = String::new(heap);
-    for i in 0..bytes.len() {
-        text.push(digit(bytes[i] / 16))?;
-        text.push(digit(bytes[i] % 16))?;
+    for byte in bytes {
+        text.push(digit(byte / 16))?;
+        text.push(digit(byte % 16))?;
     }
     Ok(text)
 }

@@ -16,12 +16,13 @@ fn run(rt: &HostRuntime) -> anyhow::Result<()> {
     for vector in &VECTORS {
         let name = vector.name;
         let digest = vector.computed(rt.alloc())?;
-        if digest.as_str() == vector.digest {
+        let verdict = if digest.as_str() == vector.digest {
             agreed += 1;
-            println!(rt; "{name}: {digest} agrees")?;
+            "agrees"
         } else {
-            println!(rt; "{name}: {digest} differs")?;
-        }
+            "differs"
+        };
+        println!(rt; "{name}: {digest} {verdict}")?;
     }
     let all = VECTORS.len();
     println!(rt; "{agreed} of {all} agreed")?;

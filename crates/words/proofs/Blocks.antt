@@ -1,15 +1,12 @@
 -- The hash over the blocks of a message, and of a message in two parts.
 -- Assumes nothing.
-use Rattle.std.proofs.Common.{◌≡◌, ℕ, zero, suc, ◌+◌, ◌-◌, ◌*◌, ◌/◌, ◌≤◌, List, ◌++◌, length, take, drop, sym, refl, ap, ◌∙◌, ap₂, add-zero, add-suc, add-one, arith}
-use Rattle.std.proofs.lemmas.List.{length-append, length-drop, drop-drop, drop-append-le, take-append-le}
+use Rattle.std.proofs.Common.{◌≡◌, ℕ, zero, suc, ◌+◌, ◌-◌, ◌*◌, ◌/◌, ◌≤◌, List, ◌++◌, length, take, drop, sym, refl, ap, ◌∙◌, ap₂, add-zero, add-suc, arith}
+use Rattle.std.proofs.lemmas.List.{length-append, length-drop, drop-drop, drop-append-le, take-append-le, take_at, drop_at, take_all}
+use Rattle.std.specs.List.{fold}
+use Rattle.std.specs.Simd.{first_chunks}
 use Rattle.words.specs.Constants.{H⁰}
 use Rattle.words.specs.Padding.{pad, block}
 use Rattle.words.specs.Computation.{compress, digest, hash, sha_256}
-
--- one more block
-pub hash_more : (H m : List ℕ) (n : ℕ) → hash H m (n + 1) ≡ compress (hash H m n) (block m n)
-unfolding hash
-hash_more H m n = ap (hash H m) (add-one n)
 
 -- a block within the first part is that part's
 block_append : (m x : List ℕ) (i : ℕ) → 64 * i + 64 ≤ length m → block (m ++ x) i ≡ block m i
@@ -34,6 +31,27 @@ hash_drop : (H m : List ℕ) (q n : ℕ) → hash (hash H m q) (drop (64 * q) m)
 unfolding hash
 hash_drop H m q zero = ap (hash H m) (sym (add-zero q))
 hash_drop H m q (suc n) = ap₂ compress (hash_drop H m q n) (block_drop m q n) ∙ ap (hash H m) (sym (add-suc q n))
+
+-- the first block, and then the others
+pub hash_cons : (H b x : List ℕ) (n : ℕ) → length b ≡ 64 → hash H (b ++ x) (suc n) ≡ hash (compress H b) x n
+unfolding hash
+hash_cons H b x n long =
+    let next : suc n ≡ 1 + n = omega arith in
+    ap (hash H (b ++ x)) next
+    ∙ sym (hash_drop H (b ++ x) 1 n)
+    ∙ λ i. hash (compress H (take_at b x 64 long i)) (drop_at b x 64 long i) n
+
+pub hash_one : (H b : List ℕ) → length b ≡ 64 → hash H b 1 ≡ compress H b
+unfolding hash
+hash_one H b long = ap (compress H) (take_all 64 b (omega arith))
+
+-- the whole blocks, one after the other
+pub hash_chunks : (H m : List ℕ) (n : ℕ) → fold compress H (first_chunks 64 n m) ≡ hash H m n
+unfolding hash
+hash_chunks H m zero = refl
+hash_chunks H m (suc n) =
+    let next : 1 + n ≡ suc n = omega arith in
+    hash_chunks (compress H (take 64 m)) (drop 64 m) n ∙ hash_drop H m 1 n ∙ ap (hash H m) next
 
 -- the whole blocks of the first part, and then the blocks of all that is left
 hash_split : (H m x last : List ℕ) → last ≡ drop (64 * (length m / 64)) (m ++ x)

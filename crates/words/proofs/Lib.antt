@@ -1,9 +1,10 @@
+pub mod Bits
 pub mod Blocks
 pub mod Bytes
-pub mod Choice
+pub mod Chunks
+pub mod Digest
 pub mod Entries
-pub mod Majority
 pub mod Own
+pub mod Padding
 pub mod Rounds
 pub mod Schedule
-pub mod Writing

@@ -38,18 +38,22 @@ Ch x y z = (x AND y) ⊕ (NOT x AND z)
 abbrev pub Maj : ℕ → ℕ → ℕ → ℕ
 Maj x y z = (x AND y) ⊕ (x AND z) ⊕ (y AND z)
 
--- the rotations by 2, 13 and 22, combined by exclusive or
+-- the rotations by a, b and c, combined by exclusive or
+abbrev pub Σ : ℕ → ℕ → ℕ → ℕ → ℕ
+Σ a b c x = ROTR a x ⊕ ROTR b x ⊕ ROTR c x
+
+-- the rotations by a and b, and the shift by c
+abbrev pub σ : ℕ → ℕ → ℕ → ℕ → ℕ
+σ a b c x = ROTR a x ⊕ ROTR b x ⊕ SHR c x
+
 abbrev pub Σ0 : ℕ → ℕ
-Σ0 x = ROTR 2 x ⊕ ROTR 13 x ⊕ ROTR 22 x
+Σ0 = Σ 2 13 22
 
--- the rotations by 6, 11 and 25
 abbrev pub Σ1 : ℕ → ℕ
-Σ1 x = ROTR 6 x ⊕ ROTR 11 x ⊕ ROTR 25 x
+Σ1 = Σ 6 11 25
 
--- the rotations by 7 and 18, and the shift by 3
 abbrev pub σ0 : ℕ → ℕ
-σ0 x = ROTR 7 x ⊕ ROTR 18 x ⊕ SHR 3 x
+σ0 = σ 7 18 3
 
--- the rotations by 17 and 19, and the shift by 10
 abbrev pub σ1 : ℕ → ℕ
-σ1 x = ROTR 17 x ⊕ ROTR 19 x ⊕ SHR 10 x
+σ1 = σ 17 19 10

@@ -4,7 +4,5 @@ pub mod Constants
 pub mod Functions
 pub mod Own
 pub mod Padding
-pub mod Running
 pub mod Sealers
 pub mod Words
-pub mod Writing

@@ -1,30 +1,42 @@
-// The last blocks of a padded message: FIPS 180-4, section 5.1.1.
-ghost use Rattle.std.specs.Prelude.{◌≡◌, ◌+◌, ◌*◌, ◌/◌, ◌%◌, ◌^◌, ◌<◌, ◌≤◌, length, take, drop, slice_set};
-ghost use Rattle.words.specs.Padding.{pad, zeros};
-ghost use Rattle.words.specs.Writing.{written};
+// The blocks that end a padded message: FIPS 180-4, section 5.1.1.
+ghost use Rattle.std.specs.Prelude.{◌≡◌, ℕ, ◌-◌, ◌*◌, ◌/◌, ◌%◌, ◌^◌, ◌<◌, List, ◌∷◌, ◌++◌, length, take, drop, replicate};
+ghost use Rattle.words.specs.Computation.{hash};
+ghost use Rattle.words.specs.Padding.{bytes, pad};
 
-// Writes the bytes at a place of `out`.
-pub(super) fn write(out: &mut [u8], at: usize, bytes: &[u8])
-    requires { at + length bytes.now ≤ length out.old }
-    ensures { out.new ≡ written out.old at bytes.now }
+use super::compression::compress;
+
+// The hash value after the blocks of the padded message that follow the message's whole blocks, from the hash value before them.
+pub(super) fn hash_rest(start: [u32; 8], message: &[u8]) -> [u32; 8]
+    ensures { (last : List ℕ) → last ≡ drop (64 * (length message.now / 64)) (pad message.now) → result ≡ hash start last (length last / 64) }
 {
-    out[at..at + bytes.len()].copy_from_slice(bytes);
+    let (_, rest) = message.as_chunks::<64>();
+    let mut value = start;
+    let mut block = marked(rest);
+    if rest.len() > 55 {
+        let next = compress(value, &block);
+        value = next;
+        block = [0; 64];
+    }
+    compress(value, &with_length(block, bit_length(message.len())))
 }
 
-// Puts the byte 80h at a place of `out`: the bit 1 that follows the message.
-fn mark(out: &mut [u8], at: usize)
-    requires { at < length out.old }
-    ensures { out.new ≡ slice_set out.old at 0x80 }
+// A block that begins with the rest of the message, and the byte 80h: the bit 1 that follows the message. Zeros follow.
+fn marked(rest: &[u8]) -> [u8; 64]
+    requires { length rest.now < 64 }
+    ensures { result ≡ rest.now ++ 0x80 ∷ replicate (63 - length rest.now) 0 }
 {
-    out[at] = 0x80;
+    let mut block = [0; 64];
+    block[..rest.len()].copy_from_slice(rest);
+    block[rest.len()] = 0x80;
+    block
 }
 
-// How long the last blocks are, for a message of n bytes: its bytes after the last whole block, the byte 80h, zeros and the length.
-fn padded_length(n: usize) -> usize
-    ensures value { result ≡ n % 64 + zeros n + 9 }
-    ensures whole { result % 64 ≡ 0 }
+// The block, with the length of the message in its last eight bytes.
+fn with_length(mut block: [u8; 64], bits: u64) -> [u8; 64]
+    ensures { result ≡ take 56 block ++ bytes 8 bits }
 {
-    if n % 64 < 56 { 64 } else { 128 }
+    block[56..].copy_from_slice(&bits.to_be_bytes());
+    block
 }
 
 // The length in bits of a message of n bytes, modulo 2 ^ 64.
@@ -32,19 +44,4 @@ fn bit_length(n: usize) -> u64
     ensures { result ≡ n * 8 % 2 ^ 64 }
 {
     (n as u64).wrapping_mul(8)
-}
-
-// The padded message after the message's last whole block, and its length: one or two blocks.
-pub(super) fn last_blocks(message: &[u8]) -> ([u8; 128], usize)
-    ensures value { take result.1 result.0 ≡ drop (64 * (length message.now / 64)) (pad message.now) }
-    ensures bound { result.1 ≤ 128 }
-{
-    let rest = &message[64 * (message.len() / 64)..message.len()];
-    let end = padded_length(message.len());
-    let bits = bit_length(message.len());
-    let mut last = [0; 128];
-    write(&mut last, 0, rest);
-    mark(&mut last, rest.len());
-    write(&mut last, end - 8, &bits.to_be_bytes());
-    (last, end)
 }

@@ -1,7 +1,7 @@
--- The first words are written.
+-- The bytes of the words below i are written.
 use Rattle.std.proofs.Common.{◌≡◌, ◌*◌, length, take}
 use Rattle.words.specs.Computation.{digest}
 use Rattle.words.proofs.hashing.digest.Given as goal
 
 abbrev pub invariant-loop-i : goal.invariant-loop-i
-invariant-loop-i l = (length l.bytes ≡ 32) × (take (4 * l.i) l.bytes ≡ digest (take l.i l.value))
+invariant-loop-i l = (length l.bytes ≡ 32) × (take (4 * l.i) l.bytes ≡ digest (take l.i l.fn.value))

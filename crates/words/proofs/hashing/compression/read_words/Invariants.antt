@@ -1,5 +1,5 @@
 -- The words below t are those of the block.
-use Rattle.std.proofs.Common.{◌≡◌, ℕ, ◌<◌, length, get_or}
+use Rattle.std.proofs.Common.{◌≡◌, ℕ, ◌<◌, get_or, length}
 use Rattle.words.specs.Padding.{word}
 use Rattle.words.proofs.hashing.compression.read_words.Given as goal
 
