@@ -7,7 +7,7 @@ mod passes;
 const MOST_PLACES: usize = 1152;
 
 // The chosen records as a table of their own, of which every filled place is chosen. Each pass adds some.
-#[derive(Clone, Copy, Debug)]
+#[derive(Drop)]
 pub struct Chosen {
     places: [Place; MOST_PLACES],
 }
