@@ -10,7 +10,7 @@ use crate::State;
 use coins::Coin;
 use packets::Fields;
 use settings::{NO_PREFERENCE, PhaseKind, Status};
-use table::{Place, Table};
+use table::Place;
 
 impl State {
     // Moves once, by the records of a table and the record to catch up with, if there is one.
@@ -135,16 +135,5 @@ impl State {
     {
         let decided = self.status == Status::Decided && self.value < NO_PREFERENCE;
         decided.then_some(self.value)
-    }
-
-    // The table that the host lends, with the settings of its hall.
-    fn table<'a>(&self, places: &'a [Place]) -> Table<'a>
-        ensures settings { result.settings ≡ self.now.settings }
-        ensures places { result.places.now ≡ places.now }
-    {
-        Table {
-            settings: self.settings,
-            places,
-        }
     }
 }
