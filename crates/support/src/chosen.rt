@@ -1,4 +1,4 @@
-// The chosen records.
+// Which records are chosen.
 use table::Place;
 
 mod passes;
@@ -6,7 +6,7 @@ mod passes;
 // The places of the largest hall: sixteen cabins, twenty-four phases, three values.
 const MOST_PLACES: usize = 1152;
 
-// A table of its own, of which every filled place is chosen. Each pass adds some.
+// The chosen records as a table of their own, of which every filled place is chosen. Each pass adds some.
 #[derive(Clone, Copy, Debug)]
 pub struct Chosen {
     places: [Place; MOST_PLACES],

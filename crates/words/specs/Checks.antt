@@ -1,6 +1,7 @@
 -- The two lists of words, and which words they pass. Assumes nothing.
-use Rattle.std.specs.Prelude.{ℕ, ◌+◌, ◌-◌, ◌*◌, Bool, true, false, cond, ◌&&◌, List, [], ◌∷◌, length, Some, None, Ok, Option, Result, ◌==◌, nat_le, nat_lt}
+use Rattle.std.specs.Prelude.{ℕ, ◌+◌, ◌-◌, ◌*◌, Bool, cond, ◌&&◌, List, [], length, Some, None, Ok, Option, Result, ◌==◌, nat_le, nat_lt}
 use Rattle.std.specs.List.{between}
+use Rattle.std.specs.Str.{bytes_eq}
 use Rattle.settings.specs.Refusals.{needs}
 use Rattle.settings.specs.declared.settings.Settings.{Settings}
 use Rattle.words.specs.Computation.{sha_256}
@@ -11,10 +12,7 @@ use Rattle.words.specs.declared.list.WordList.{WordList}
 
 -- two lists of bytes are the same
 abbrev pub same_bytes : List ℕ → List ℕ → Bool
-same_bytes [] [] = true
-same_bytes [] (y ∷ ys) = false
-same_bytes (x ∷ xs) [] = false
-same_bytes (x ∷ xs) (y ∷ ys) = x == y && same_bytes xs ys
+same_bytes = bytes_eq
 
 -- a list of entries of 32 bytes, for so many cabins and phases
 pub record ListView : Type 0 where

@@ -16,11 +16,11 @@ pub record CabinView : Type 0 where
 abbrev pub cabin_view : {F : Type 0} → CabinEntries F → CabinView
 cabin_view c = record { cabin = c.cabin; list = list_view c.list }
 
--- of cabin 0 with last phase 0
+-- the entries of cabin 0 in a list of no phase
 abbrev pub empty_cabin : CabinView
 empty_cabin = record { cabin = 0; list = empty_list }
 
--- of a cabin in a list
+-- the entries of a cabin in a list
 abbrev pub cabin_of : ℕ → Result ListView ℕ → Result CabinView ℕ
 cabin_of i (Ok list) = Ok (record { cabin = i; list = list })
 cabin_of i (Err k) = Err k
@@ -41,9 +41,11 @@ PlainView = CabinView
 abbrev pub plain_sealer_view : CabinEntries Plain → PlainView
 plain_sealer_view = cabin_view
 
+-- the empty sealer: of cabin 0 with last phase 0
 abbrev pub empty_plain : PlainView
 empty_plain = empty_cabin
 
+-- making a plain sealer: refusal 3 for the cabin, then 6 for the list's length
 abbrev pub make_plain : Settings → ℕ → List ℕ → Result PlainView ℕ
 make_plain = cabin_answer
 

@@ -1,14 +1,8 @@
-use Rattle.std.proofs.Common.{ap, ◌∙◌, arith}
+use Rattle.std.proofs.Common.{ap, ◌∙◌}
 use Rattle.support.specs.View.{support_places}
-use Rattle.support.proofs.Listing.{listed_none, listed_in, listed_out, listed_room}
+use Rattle.support.proofs.Listing.{listed_in, listed_out}
 use Rattle.support.proofs.chosen.Chosen.listed.Goals as goal
 use Rattle.support.proofs.chosen.Chosen.listed.Goals.{then-is_filled, else-is_filled}
-
-pub loop-place-init : goal.loop-place-init
-loop-place-init c = listed_none _ _ c.none-support.ensures
-
-pub push-requires : goal.push-requires
-push-requires c = listed_room _ _ _ _ c.loop-place.invariant c.if-is_filled.ensures (omega arith) c.requires
 
 pub loop-place-preserved : goal.loop-place-preserved
 loop-place-preserved c =

@@ -1,6 +1,0 @@
-use Rattle.support.proofs.Passing.{Topped}
-use Rattle.support.proofs.chosen.Chosen.top_up.Given as goal
-
--- the cabins below this one are done
-abbrev pub invariant-loop-cabin : goal.invariant-loop-cabin
-invariant-loop-cabin l = Topped l.table.settings l.table.places.now l.phase l.most l.initial.self.places l.self.places l.cabin l.initial.cabins l.cabins
