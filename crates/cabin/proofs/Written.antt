@@ -1,5 +1,5 @@
 -- The records of a packet are written one after another, and then the packet reads back.
-use Rattle.std.proofs.Common.{◌≡◌, ℕ, ◌+◌, ◌*◌, ◌<◌, ◌≤◌, Bool, true, eqb, List, length, Some, get_or, take, drop, sym, refl, ap, ◌∙◌, subst, inl, inr, arith}
+use Rattle.std.proofs.Common.{◌≡◌, ℕ, ◌+◌, ◌*◌, ◌<◌, ◌≤◌, Bool, true, eqb, List, length, get_or, take, drop, sym, refl, ap, ◌∙◌, subst, inl, inr, arith}
 use Rattle.std.proofs.lemmas.List.{drop-drop, length-append, length-take, length-take-le}
 use Rattle.std.proofs.lemmas.Bool.{cases_Bool, cases_eq, cases_lt, le-ltb, lt-ltb}
 use Rattle.packets.proofs.Places.{drop_of_written, length_written, others_of_written, read_of_written, record_of_take, record_of_written}
@@ -8,7 +8,7 @@ use Rattle.packets.specs.Laws.{InBytes, judged}
 use Rattle.packets.specs.Packets.{is_last, packet_lawful, places_in, read_answer, record_at, shown_as, written}
 use Rattle.packets.specs.Records.{record_bytes}
 use Rattle.support.specs.Support.{place_phase}
-use Rattle.support.specs.View.{place_at, support_places}
+use Rattle.support.specs.View.{support_places}
 use Rattle.support.specs.declared.support.Support.{Support}
 use Rattle.table.specs.declared.place.Place.{Place}
 use Rattle.moves.specs.Announcing.{Announced, Content, Sealing, copied, own_content, said_at, with_support}
@@ -45,10 +45,6 @@ written_more contents k b a a' before room wrote =
 -- a support has at most 35 places
 pub support_few : (r : Support) → length (support_places r) ≤ 35
 support_few r = omega (arith, length-take r.count r.places, r.few)
-
--- the place with an index below their number
-pub place_is : (ks : List ℕ) (j k : ℕ) → j < length ks → place_at ks j ≡ Some k → get_or ks j 0 ≡ k
-place_is ks j k below e = grind arith
 
 -- at most 35 places are sent
 chosen_few : (c : State) (t : List Place) (ks : List ℕ) → Chosen c t ks → length ks ≤ 35

@@ -28,7 +28,7 @@ pub(crate) fn hear_records<W: WordCheck>(
     ensures tally { tally_view result ≡ (heard (W.WordCheck.answers check.now) state.now table.old packet.now).progress }
     ensures table { table.new ≡ (heard (W.WordCheck.answers check.now) state.now table.old packet.now).table }
 {
-    let mut tally = Tally::new();
+    let mut tally = Tally::default();
     for place in 0..count {
         let answer = hear_record(check, state, table, packet, place);
         tally.count(place, answer);

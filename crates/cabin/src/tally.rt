@@ -1,7 +1,7 @@
 // What a hearing counts on its way, and what it tells at the end.
 ghost use Rattle.std.specs.Prelude.{◌≡◌, ◌<◌};
 ghost use Rattle.settings.specs.Refusals.{told};
-ghost use Rattle.moves.specs.Hearing.{beginning, telling};
+ghost use Rattle.moves.specs.Hearing.{telling};
 ghost use Rattle.cabin.specs.Records.{counted_with, records_counted};
 ghost use Rattle.cabin.specs.Views.{heard_view, tally_view};
 
@@ -27,13 +27,6 @@ pub(crate) struct Tally {
 }
 
 impl Tally {
-    // Before the first record.
-    pub(crate) fn new() -> Tally
-        ensures { tally_view result ≡ beginning }
-    {
-        Tally::default()
-    }
-
     // Counts the record at a place, by what was found of it or why it was turned away.
     pub(crate) fn count(&mut self, place: usize, answer: Result<(Finding, Fields), Refusal>)
         requires { records_counted (tally_view self.old) < 255 }

@@ -47,9 +47,8 @@ fn write_support(state: &State, table: &[Place], support: &Support, buffer: &mut
     requires { longest_packet ≤ length buffer.old }
     ensures { Written (λ j. copied state.now table.now (slice_index (support_places support.now) j)) (length (support_places support.now)) buffer.old buffer.new }
 {
-    for index in 0..support.len() {
-        let place = support.place(index).unwrap();
-        write_copy(state, table, place, index, buffer);
+    for (index, place) in support.places().iter().enumerate() {
+        write_copy(state, table, *place, index, buffer);
     }
 }
 

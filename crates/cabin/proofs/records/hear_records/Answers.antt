@@ -1,4 +1,4 @@
-use Rattle.std.proofs.Common.{ap, arith}
+use Rattle.std.proofs.Common.{ap, arith, rules}
 use Rattle.settings.specs.Refusals.{told}
 use Rattle.moves.specs.Hearing.{Hearing}
 use Rattle.cabin.proofs.Hearings.{heard_all, heard_more, heard_none}
@@ -6,7 +6,7 @@ use Rattle.cabin.proofs.records.hear_records.Goals as goal
 
 pub loop-place-init : goal.loop-place-init
 loop-place-init g c =
-    (omega arith, heard_none (g.W.WordCheck.answers c.args.check.now) c.args.state.now c.args.table.now c.args.packet.now c.new-tally.result c.new-tally.ensures)
+    (omega arith, heard_none (g.W.WordCheck.answers c.args.check.now) c.args.state.now c.args.table.now c.args.packet.now c.default-tally.result (search rules))
 
 pub loop-place-preserved : goal.loop-place-preserved
 loop-place-preserved g c =
