@@ -17,20 +17,16 @@ unfolding count
 count_zero A = refl
 
 count_grows : (A : ℕ → Bool) (n : ℕ) → count A n ≤ count A (suc n)
-count_grows A n = elim (cases_Bool (A n)) [ inl a ↦ omega (arith, count_in A n a) | inr a ↦ omega (arith, count_out A n a) ]
+unfolding count
+count_grows A n = omega arith
 
 -- a set within another has no more members
 pub count_within : (A B : ℕ → Bool) (n : ℕ) → ((i : ℕ) → i < n → A i ≡ true → B i ≡ true) → count A n ≤ count B n
 count_within A B zero within = omega (arith, count_zero A)
 count_within A B (suc n) within =
     let rest : count A n ≤ count B n = count_within A B n (λ i below. within i (omega arith)) in
-    elim (cases_Bool (A n)) [
-      | inl a ↦ omega (arith, count_in A n a, count_in B n (within n (omega arith) a))
-      | inr a ↦ elim (cases_Bool (B n)) [
-        | inl b ↦ omega (arith, count_out A n a, count_in B n b)
-        | inr b ↦ omega (arith, count_out A n a, count_out B n b)
-      ]
-    ]
+    let here : A n ≡ true → B n ≡ true = within n (omega arith) in
+    grind (arith, count_in A n, count_out A n, count_in B n, count_out B n)
 
 -- the empty set has none
 pub count_none : (n : ℕ) → count (λ _. false) n ≡ 0
@@ -89,13 +85,8 @@ pub count_union : (A B C : ℕ → Bool) (n : ℕ) → ((i : ℕ) → i < n → 
 count_union A B C zero either = omega (arith, count_zero C)
 count_union A B C (suc n) either =
     let rest : count C n ≤ count A n + count B n = count_union A B C n (λ i below. either i (omega arith)) in
-    elim (cases_Bool (C n)) [
-      | inl c ↦ elim (either n (omega arith) c) [
-        | inl a ↦ omega (arith, count_in C n c, count_in A n a, count_grows B n)
-        | inr b ↦ omega (arith, count_in C n c, count_in B n b, count_grows A n)
-      ]
-      | inr c ↦ omega (arith, count_out C n c, count_grows A n, count_grows B n)
-    ]
+    let here : C n ≡ true → (A n ≡ true) ⊎ (B n ≡ true) = either n (omega arith) in
+    grind (arith, count_in C n, count_out C n, count_in A n, count_in B n, count_grows A n, count_grows B n)
 
 -- some number below n is in the set
 pub some_from : (A : ℕ → Bool) (n i : ℕ) → i < n → A i ≡ true → some A n ≡ true

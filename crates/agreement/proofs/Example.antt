@@ -1,6 +1,7 @@
 -- A history that keeps all laws: three honest cabins of four say v in phases 1 to 3, and all three decide v.
 use Rattle.std.proofs.Common.{◌≡◌, ℕ, zero, suc, ◌<◌, ◌≤◌, true, ◌&&◌, eqb, ltb, leb, Some, refl, subst, arith}
-use Rattle.std.proofs.lemmas.Bool.{and_parts, eqb-true, leb-true, ltb-true, true≢false}
+use Rattle.std.proofs.lemmas.Bool.{true≢false}
+use Rattle.std.proofs.lemmas.Bool.Decides.{nat_tests}
 use Rattle.agreement.specs.Counting.{count, some}
 use Rattle.agreement.specs.Rules.{Table, is_valid, tally, turnout}
 use Rattle.agreement.specs.Books.{Filled}
@@ -20,11 +21,7 @@ record Heard (v φ j w : ℕ) : Type 0 where
 
 heard_parts : (v φ j w : ℕ) → heard v φ j w ≡ true → Heard v φ j w
 unfolding heard
-heard_parts v φ j w e =
-    let a = and_parts (leb 1 φ && leb φ 3) (ltb j 3 && eqb w v) e in
-    let p = and_parts (leb 1 φ) (leb φ 3) a.0 in
-    let q = and_parts (ltb j 3) (eqb w v) a.1 in
-    record { from = leb-true 1 φ p.0; to = leb-true φ 3 p.1; cabin = ltb-true j 3 q.0; value = eqb-true w v q.1 }
+heard_parts v φ j w e = record { from = grind (arith, nat_tests); to = grind (arith, nat_tests); cabin = grind (arith, nat_tests); value = grind (arith, nat_tests) }
 
 heard_valid : (v φ : ℕ) → v < 2 → 1 ≤ φ → φ ≤ 4 → is_valid (two_way_hall 4 1) (heard v) φ v ≡ true
 unfolding heard is_valid two_way tally turnout count some

@@ -1,7 +1,8 @@
 -- What the rules say of a valid record, phase by phase.
-use Rattle.std.proofs.Common.{◌≡◌, ℕ, ◌-◌, ◌%◌, ◌<◌, ◌≤◌, true, ◌&&◌, ◌||◌, eqb, ltb, leb, ◌⊎◌, refl, subst, inl, inr, arith}
-use Rattle.std.proofs.lemmas.Bool.{and_parts, and_from, or_cases, leb-true, ltb-true, eqb-true, eq-eqb, ne_eqb}
+use Rattle.std.proofs.Common.{◌≡◌, ℕ, ◌-◌, ◌%◌, ◌<◌, ◌≤◌, true, ◌⊎◌, refl, subst, arith}
+use Rattle.std.proofs.lemmas.Bool.{leb-true, eq-eqb, ne_eqb}
 use Rattle.std.proofs.lemmas.Bool.Decides.{nat_tests}
+use Rattle.std.proofs.lemmas.Grind.{common_steps}
 use Rattle.settings.specs.Kinds.{kind_of}
 use Rattle.settings.specs.declared.kind.PhaseKind.{PhaseKind}
 use Rattle.settings.specs.declared.kind.PhaseKind.TheVariants.{Converge, Lock, Decide}
@@ -19,40 +20,26 @@ kind_decide φ e = rw (ne_eqb (φ % 3) 1 (λ h. omega arith), ne_eqb (φ % 3) 2 
 -- the parts of a valid record
 valid_parts : (hall : Hall) (t : Table) (φ v : ℕ) → is_valid hall t φ v ≡ true → (is_lawful hall φ v ≡ true) × (phase_rule hall t φ ≡ true) × (value_rule hall t φ v ≡ true)
 unfolding is_valid
-valid_parts hall t φ v ok =
-    let p = and_parts (is_lawful hall φ v) (phase_rule hall t φ && value_rule hall t φ v) ok in
-    let r = and_parts (phase_rule hall t φ) (value_rule hall t φ v) p.1 in
-    (p.0, r.0, r.1)
+valid_parts hall t φ v ok = grind (arith, common_steps)
 
 pub valid_from : (hall : Hall) (t : Table) (φ v : ℕ) → is_lawful hall φ v ≡ true → phase_rule hall t φ ≡ true → value_rule hall t φ v ≡ true → is_valid hall t φ v ≡ true
 unfolding is_valid
-valid_from hall t φ v lawful ready backed =
-    and_from (is_lawful hall φ v) (phase_rule hall t φ && value_rule hall t φ v) lawful (and_from (phase_rule hall t φ) (value_rule hall t φ v) ready backed)
+valid_from hall t φ v lawful ready backed = grind (arith, common_steps)
 
 rule_in : (hall : Hall) (t : Table) (φ v : ℕ) (kind : PhaseKind) → kind_of φ ≡ kind → is_valid hall t φ v ≡ true → value_rule_in kind hall t φ v ≡ true
 rule_in hall t φ v kind e ok = subst (λ (k : PhaseKind). value_rule_in k hall t φ v ≡ true) e (valid_parts hall t φ v ok).2
 
 -- a valid record has a phase from 1 on
 pub valid_phase : (hall : Hall) (t : Table) (φ v : ℕ) → is_valid hall t φ v ≡ true → 1 ≤ φ
-valid_phase hall t φ v ok = leb-true 1 φ (and_parts (leb 1 φ) _ (valid_parts hall t φ v ok).0).0
+valid_phase hall t φ v ok = let p = (valid_parts hall t φ v ok).0 in grind (arith, nat_tests)
 
 -- its value is a course, or no preference in a DECIDE phase
 pub valid_course : (hall : Hall) (t : Table) (φ v : ℕ) → is_valid hall t φ v ≡ true → (φ % 3 ≡ 0 → ⊥) → v < hall.book.courses
-valid_course hall t φ v ok other =
-    let m = hall.book.courses in
-    elim (or_cases (ltb v m) (eqb v m && eqb (φ % 3) 0) (and_parts (leb 1 φ) (ltb v m || (eqb v m && eqb (φ % 3) 0)) (valid_parts hall t φ v ok).0).1) [
-      | inl course ↦ ltb-true v m course
-      | inr none ↦ absurd (other (eqb-true (φ % 3) 0 (and_parts (eqb v m) (eqb (φ % 3) 0) none).1))
-    ]
+valid_course hall t φ v ok other = let p = (valid_parts hall t φ v ok).0 in grind (arith, nat_tests)
 
 -- in any phase it is a course, or no preference
 pub valid_value : (hall : Hall) (t : Table) (φ v : ℕ) → is_valid hall t φ v ≡ true → v ≤ hall.book.courses
-valid_value hall t φ v ok =
-    let m = hall.book.courses in
-    elim (or_cases (ltb v m) (eqb v m && eqb (φ % 3) 0) (and_parts (leb 1 φ) (ltb v m || (eqb v m && eqb (φ % 3) 0)) (valid_parts hall t φ v ok).0).1) [
-      | inl course ↦ let below = ltb-true v m course in omega arith
-      | inr none ↦ let same = eqb-true v m (and_parts (eqb v m) (eqb (φ % 3) 0) none).0 in omega arith
-    ]
+valid_value hall t φ v ok = let p = (valid_parts hall t φ v ok).0 in grind (arith, nat_tests)
 
 -- in LOCK the book supports it
 pub valid_lock : (hall : Hall) (t : Table) (φ v : ℕ) → φ % 3 ≡ 2 → is_valid hall t φ v ≡ true → hall.book.lock t φ v ≡ true

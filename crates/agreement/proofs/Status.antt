@@ -1,6 +1,7 @@
 -- What the status rule and the laws of status rest on: catching up with a record, and leaving a DECIDE phase.
-use Rattle.std.proofs.Common.{◌≡◌, ℕ, ◌+◌, ◌-◌, ◌%◌, ◌<◌, true, false, ◌&&◌, ltb, leb, Some, inl, inr, arith}
-use Rattle.std.proofs.lemmas.Bool.{and_parts, leb-true, ltb-true, or_cases}
+use Rattle.std.proofs.Common.{◌≡◌, ℕ, ◌+◌, ◌-◌, ◌%◌, ◌<◌, true, false, ◌&&◌, ltb, Some, arith}
+use Rattle.std.proofs.lemmas.Bool.{and_parts, leb-true, ltb-true}
+use Rattle.std.proofs.lemmas.Bool.Decides.{nat_tests}
 use Rattle.agreement.specs.Rules.{Hall, QuorumFor, QuorumIn, Table, has_quorum, quorum, tally}
 use Rattle.agreement.specs.Books.{Filled, FirstLaw, Within}
 use Rattle.agreement.specs.History.{DecideQuorum, History, Honest, Laws}
@@ -17,11 +18,7 @@ status_decided hall t φ v met =
 
 -- an undecided one beyond phase 3 rests on the book
 pub status_undecided : (hall : Hall) (t : Table) (φ v : ℕ) → 3 < φ → status_rule hall t φ v false ≡ true → hall.book.undecided t φ ≡ true
-status_undecided hall t φ v far met =
-    elim (or_cases (leb φ 3) (hall.book.undecided t φ) met) [
-      | inl early ↦ let low = leb-true φ 3 early in absurd (omega arith)
-      | inr supported ↦ supported
-    ]
+status_undecided hall t φ v far met = grind (arith, nat_tests)
 
 -- a quorum in DECIDE has one for the same course in the LOCK phase before: who catches up with such a record tosses no coin
 pub decide_quorum_locked : (hall : Hall) (ever : Table) (d v : ℕ) → Filled hall ever → DecideQuorum hall ever d v → QuorumFor hall ever (d - 1) v

@@ -14,17 +14,12 @@ const COURSES: u8 = 2;
 
 // Whether two decisions can be those of two honest cabins of one hall. Where both are there and differ they cannot: the
 // decisions of honest cabins are equal.
+#[tactic(auto, using(crate::proofs::Agreement::decisions_agree))]
 pub fn can_agree(first: Option<u8>, second: Option<u8>) -> bool
     ensures value { result ≡ compatible first second }
     ensures agree { DecisionsAgree }
 {
-    match first {
-        Some(v) => match second {
-            Some(w) => v == w,
-            None => true,
-        },
-        None => true,
-    }
+    first.zip(second).is_none_or(|(v, w)| v == w)
 }
 
 // The phase from which on every honest cabin has decided, if all honest cabins had one choice.
@@ -37,6 +32,7 @@ pub fn decided_by() -> u16
 }
 
 // The phase from which on every honest cabin has decided, if the hearing that gave one its decision led it to `phase`.
+#[tactic(auto, using(crate::proofs::CatchingUp::caught_up))]
 pub fn caught_up_by(phase: u16) -> u32
     ensures value { result ≡ phase + 3 }
     ensures phase { CaughtUpBy phase result }
@@ -46,7 +42,7 @@ pub fn caught_up_by(phase: u16) -> u32
 
 // The number of courses under the two-way rules. These rules keep both laws of a rule book, and each course can be
 // decided.
-#[tactic(auto, unfolding(crate::specs::TwoWay::two_way))]
+#[tactic(auto, using(crate::proofs::Example::can_decide), unfolding(crate::specs::TwoWay::two_way))]
 pub fn two_way_courses() -> u8
     ensures value { (n f : ℕ) → result ≡ (two_way n f).courses }
     ensures lawful { TwoWayLawful }

@@ -1,2 +1,4 @@
-pub mod Opening
-pub mod Table
+pub mod Packets
+pub mod Records
+pub mod Sealings
+pub mod Views

@@ -1,13 +1,15 @@
-// A cabin of a hall: its table, which the host lends it, and its calls.
+// A cabin of a hall and its calls: open, announce and hear. Its table stays with the host, who lends it to each call.
 #![tactic(auto)]
 
 mod cabin;
-mod place;
-mod table;
+mod records;
+mod tally;
+mod writing;
 
-pub use cabin::{Cabin, State};
-pub use place::Place;
-pub use table::places;
+pub use cabin::Cabin;
+pub use moves::State;
+pub use table::{Place, places};
+pub use tally::Heard;
 
 #[cfg(test)]
 mod tests;

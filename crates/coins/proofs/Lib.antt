@@ -1,3 +1,2 @@
 pub mod ByteLists
 pub mod RegisterLists
-pub mod Tosses

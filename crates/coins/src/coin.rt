@@ -8,6 +8,7 @@ pub trait Coin {
     ghost bits: { Self → List ℕ };
 
     // Takes the next bit. A coin that has run out gives 0 and stays as it is.
+    // Each coin tests this itself: a shared `toss` would need a second public method, which gives an `Option` of the bit.
     fn toss(&mut self) -> u8
         ensures value { result ≡ first_bit (bits self.old) }
         ensures bound { result ≤ 1 }

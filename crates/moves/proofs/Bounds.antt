@@ -1,16 +1,16 @@
 -- A move keeps the bounds of a cabin.
-use Rattle.std.proofs.Common.{◌≡◌, ℕ, ◌+◌, ◌<◌, ◌≤◌, Bool, true, false, cond, ltb, leb, List, [], ◌∷◌, Some, None, Option, sym, refl, subst, inl, inr, arith}
-use Rattle.std.proofs.lemmas.Bool.{and_parts, cases_Bool, leb-true, ltb-true}
+use Rattle.std.proofs.Common.{◌≡◌, ℕ, ◌+◌, ◌<◌, ◌≤◌, Bool, true, false, ltb, leb, List, [], ◌∷◌, Some, None, Option, sym, refl, subst, inl, inr, arith}
+use Rattle.std.proofs.lemmas.Bool.{cases_Bool, leb-true, ltb-true}
 use Rattle.settings.specs.Kinds.{kind_of}
 use Rattle.settings.specs.declared.kind.PhaseKind.{PhaseKind}
 use Rattle.settings.specs.declared.kind.PhaseKind.TheVariants.{Converge, Lock, Decide}
 use Rattle.settings.specs.declared.settings.Settings.{Settings}
 use Rattle.settings.specs.declared.status.Status.{Status}
-use Rattle.agreement.specs.Rules.{Table, has_quorum, quorum}
+use Rattle.agreement.specs.Rules.{Table, quorum}
 use Rattle.coins.specs.Bits.{are_bits, bits_after, first_bit}
 use Rattle.packets.specs.declared.record.Fields.{Fields}
 use Rattle.table.specs.Places.{records_of}
-use Rattle.table.specs.Rules.{count_for, count_in, hall_of}
+use Rattle.table.specs.Rules.{count_in, hall_of}
 use Rattle.table.specs.declared.place.Place.{Place}
 use Rattle.moves.specs.Moving.{Moved, catch_tosses, catch_up, leave, leave_status, leave_tosses, leave_value, moved, moves_to, with_bits}
 use Rattle.moves.specs.declared.state.State.{State}
@@ -31,11 +31,11 @@ record BoundedMove (s : Settings) (m : Moved) : Type 0 where
 
 first_small : (bits : List ℕ) → are_bits bits ≡ true → first_bit bits ≤ 1
 first_small [] each = omega arith
-first_small (b ∷ bs) each = leb-true b 1 (and_parts (leb b 1) (are_bits bs) each).0
+first_small (b ∷ bs) each = grind arith
 
 after_bits : (bits : List ℕ) → are_bits bits ≡ true → are_bits (bits_after bits) ≡ true
 after_bits [] each = refl
-after_bits (b ∷ bs) each = (and_parts (leb b 1) (are_bits bs) each).1
+after_bits (b ∷ bs) each = grind arith
 
 -- to a phase up to P + 1 with a value up to 2, tossed or not
 to_bounded : (s : Settings) (tossed : Bool) (m : Moved) (φ v : ℕ) (status : Status) → BoundedMove s m → 1 ≤ φ → φ ≤ s.phases + 1 → v ≤ 2 → BoundedMove s (moves_to tossed m φ v status)
@@ -61,21 +61,10 @@ catch_bounded s t (Some f) m lawful b =
       | inr e ↦ rw e b
     ]
 
-either_small : (b : Bool) (x y : ℕ) → x ≤ 2 → y ≤ 2 → cond b x y ≤ 2
-either_small true x y p q = p
-either_small false x y p q = q
-
 left_small : (kind : PhaseKind) (c : State) (t : Table) → leave_value kind c t ≤ 2
-left_small Converge c t = either_small _ 1 0 (omega arith) (omega arith)
-left_small Lock c t =
-    let zero_held = has_quorum (hall_of c.settings) t c.phase 0 in
-    let one_held = has_quorum (hall_of c.settings) t c.phase 1 in
-    either_small zero_held 0 (cond one_held 1 2) (omega arith) (either_small one_held 1 2 (omega arith) (omega arith))
-left_small Decide c t =
-    let zero_held = has_quorum (hall_of c.settings) t c.phase 0 in
-    let one_held = has_quorum (hall_of c.settings) t c.phase 1 in
-    let zero_said = leb 1 (count_for c.settings t c.phase 0) in
-    either_small zero_held 0 (cond one_held 1 (cond zero_said 0 1)) (omega arith) (either_small one_held 1 (cond zero_said 0 1) (omega arith) (either_small zero_said 0 1 (omega arith) (omega arith)))
+left_small Converge c t = grind arith
+left_small Lock c t = grind arith
+left_small Decide c t = grind arith
 
 -- only a phase up to P is left
 leave_bounded : (t : List Place) (m : Moved) → BoundedMove m.state.settings m → BoundedMove m.state.settings (leave (records_of m.state.settings t) m)

@@ -1,5 +1,6 @@
 -- How a cabin moves after a packet. Assumes nothing.
 use Rattle.std.specs.Prelude.{ℕ, ◌+◌, ◌-◌, Bool, false, cond, not, ◌&&◌, ◌||◌, List, Some, None, Option, ◌==◌, nat_le, nat_lt}
+use Rattle.std.specs.Bool.{then_some}
 use Rattle.settings.specs.Kinds.{kind_of}
 use Rattle.settings.specs.declared.kind.PhaseKind.{PhaseKind}
 use Rattle.settings.specs.declared.kind.PhaseKind.TheVariants.{Converge, Lock, Decide}
@@ -45,6 +46,10 @@ catch_tosses Converge c t f = not (has_quorum (hall_of c.settings) t (f.phase - 
 catch_tosses Lock c t f = false
 catch_tosses Decide c t f = false
 
+-- the value that is taken from the record, unless it is tossed
+abbrev pub catch_value : PhaseKind → State → Table → Fields → Option ℕ
+catch_value kind c t f = then_some (not (catch_tosses kind c t f)) f.value
+
 abbrev pub caught_up : Table → Fields → Moved → Moved
 caught_up t f m = moves_to (catch_tosses (kind_of f.phase) m.state t f) m f.phase f.value f.status
 
@@ -70,6 +75,14 @@ abbrev pub leave_tosses : PhaseKind → State → Table → Bool
 leave_tosses Converge c t = false
 leave_tosses Lock c t = false
 leave_tosses Decide c t = count_for c.settings t c.phase 0 == 0 && count_for c.settings t c.phase 1 == 0
+
+-- the value with which a phase is left, unless it is tossed
+abbrev pub value_after : PhaseKind → State → Table → Option ℕ
+value_after kind c t = then_some (not (leave_tosses kind c t)) (leave_value kind c t)
+
+-- the lower course for which a test holds, if there is one
+abbrev pub course_where : (ℕ → Bool) → Option ℕ
+course_where holds = cond (holds 0) (Some 0) (cond (holds 1) (Some 1) None)
 
 -- only from DECIDE, with a course that has a quorum, the status becomes decided
 abbrev pub leave_status : PhaseKind → State → Table → Status

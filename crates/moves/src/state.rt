@@ -1,5 +1,8 @@
 // What a cabin knows of itself.
+ghost use Rattle.std.specs.Prelude.{◌≡◌};
+
 use settings::{Settings, Status};
+use table::{Place, Table};
 
 // What a cabin knows of itself at one branch point.
 #[derive(Clone, Copy, PartialEq, Eq, Debug)]
@@ -18,4 +21,17 @@ pub struct State {
     pub decision: Option<u8>,
     // the mark: whether the cabin has announced in this phase
     pub announced: bool,
+}
+
+impl State {
+    // The table that the host lends, with the settings of its hall.
+    pub fn table<'a>(&self, places: &'a [Place]) -> Table<'a>
+        ensures settings { result.settings ≡ self.now.settings }
+        ensures places { result.places.now ≡ places.now }
+    {
+        Table {
+            settings: self.settings,
+            places,
+        }
+    }
 }

@@ -3,9 +3,10 @@ use Rattle.std.proofs.Common.{◌≡◌, ℕ, ◌+◌, ◌-◌, ◌*◌, ◌<◌
 use borrow.Rule.Slice.PartMut.{put_mid}
 use lib.Seq.{paste}
 use Rattle.std.proofs.lemmas.List.Edits.{length-between, paste_all, paste-paste, split_between}
-use Rattle.std.proofs.lemmas.List.{drop-drop, drop-take, length-append, length-drop, length-take-le, take-append-drop, take-take}
+use Rattle.std.proofs.lemmas.List.{drop-drop, length-append, take-append-drop, take-take}
 use Rattle.std.proofs.lemmas.Slice.{between_is, between-put_mid, drop-put_mid, put_mid-paste, take-put_mid_below}
 use Rattle.std.proofs.lemmas.Bool.{cases_lt, lt-ltb}
+use Rattle.std.proofs.lemmas.Grind.{common_steps}
 use Rattle.settings.specs.declared.settings.Settings.{Settings}
 use Rattle.packets.proofs.Trips.{answer_of_bytes, same_from_bytes}
 use Rattle.packets.specs.Laws.{InBytes, ReadsBack, Rewrites, judged}
@@ -17,11 +18,7 @@ use Rattle.packets.specs.declared.record.Fields.{Fields}
 word_of_record : (p : List ℕ) (k : ℕ) → word_at p k ≡ drop 8 (record_at p k)
 word_of_record p k =
     let a : ℕ = k * 40 in
-    let e : a + 40 - (a + 8) ≡ 32 = omega arith in
-    let d : a + 40 - a ≡ 40 = omega arith in
-    let t = drop-take 8 32 (drop a p) in
-    let u = drop-drop 8 a p in
-    rw (e, d) (rw (sym u) (sym t))
+    rw (between_is p a (a + 40), between_is p (a + 8) (a + 40)) (sym (drop-drop 8 a (take (a + 40) p)))
 
 joined_at_8 : (h w bs : List ℕ) → h ≡ take 8 bs → w ≡ drop 8 bs → h ++ w ≡ bs
 joined_at_8 h w bs head rest = rw (head, rest) (take-append-drop 8 bs)
@@ -51,9 +48,7 @@ written_is : (p bs : List ℕ) (k : ℕ) → written p k bs ≡ put_mid (k * 40)
 written_is p bs k = ap (λ (x : List ℕ). take (k * 40) p ++ (bs ++ x)) (sym (drop-drop 40 (k * 40) p))
 
 pub length_written : (p bs : List ℕ) (k : ℕ) → k * 40 + 40 ≤ length p → length bs ≡ 40 → length (written p k bs) ≡ length p
-length_written p bs k within whole =
-    let t = length-take-le (k * 40) p (omega arith) in
-    simp (length-append, length-drop) (omega arith)
+length_written p bs k within whole = grind (arith, common_steps)
 
 pub record_of_written : (p bs : List ℕ) (k : ℕ) → k * 40 + 40 ≤ length p → length bs ≡ 40 → record_at (written p k bs) k ≡ bs
 record_of_written p bs k within whole =

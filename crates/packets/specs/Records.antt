@@ -5,6 +5,7 @@ use Rattle.settings.specs.Refusals.{needs}
 use Rattle.settings.specs.declared.kind.PhaseKind.{PhaseKind}
 use Rattle.settings.specs.declared.kind.PhaseKind.TheVariants.{Converge, Lock, Decide}
 use Rattle.settings.specs.declared.settings.Settings.{Settings}
+use Rattle.settings.specs.declared.slot.Slot.{Slot}
 use Rattle.settings.specs.declared.status.Status.{Status}
 use Rattle.settings.specs.declared.status.Status.TheVariants.{Undecided, Decided}
 use Rattle.packets.specs.Format.{branch_place, cabin_place, phase_place, status_place, value_place, zero_place}
@@ -32,6 +33,10 @@ fields_in bs = record {
   branch = pair bs branch_place;
   phase = pair bs phase_place;
 }
+
+-- the slot that a record is for
+abbrev pub slot_of : Fields → Slot
+slot_of f = record { cabin = f.cabin; phase = f.phase; value = f.value }
 
 -- value 2, no preference, is lawful only in DECIDE phases
 abbrev pub highest_in : PhaseKind → ℕ

@@ -1,9 +1,8 @@
 // Reading a packet: how many records it has, and the record at a place.
-ghost use Rattle.std.specs.Prelude.{◌≡◌, ◌<◌, IfOk};
+ghost use Rattle.std.specs.Prelude.{◌≡◌, IfOk};
 ghost use Rattle.settings.specs.Refusals.{told};
 ghost use Rattle.packets.specs.Laws.{Rewrites};
-ghost use Rattle.packets.specs.Packets.{places_in, read_answer, record_at, records_answer, shown, word_at};
-ghost use Rattle.packets.specs.Records.{fields_answer};
+ghost use Rattle.packets.specs.Packets.{read_answer, records_answer, shown};
 
 use crate::format::{LONGEST_PACKET, RECORD_SIZE, WORD};
 use crate::{Fields, record};
@@ -11,10 +10,30 @@ use settings::{Refusal, Settings};
 
 // A record of a packet: what its sender announces, at the end, or a record of support before that.
 // The word lies in the packet; it is not copied.
-#[derive(Clone, Copy, Debug)]
+#[derive(Clone, Copy, PartialEq, Eq, Debug)]
 pub enum Reading<'a> {
     Support { fields: Fields, word: &'a [u8] },
     Announcement { fields: Fields, word: &'a [u8] },
+}
+
+impl<'a> Reading<'a> {
+    // What the record says besides its word.
+    pub fn fields(self) -> Fields
+        ensures { result ≡ (shown self.entry).fields }
+    {
+        match self {
+            Reading::Support { fields, .. } | Reading::Announcement { fields, .. } => fields,
+        }
+    }
+
+    // The word of the record, where it lies in the packet.
+    pub fn word(self) -> &'a [u8]
+        ensures { result.now ≡ (shown self.entry).word }
+    {
+        match self {
+            Reading::Support { word, .. } | Reading::Announcement { word, .. } => word,
+        }
+    }
 }
 
 // How many records a packet has.
@@ -29,6 +48,7 @@ pub fn records(packet: &[u8]) -> Result<usize, Refusal>
 }
 
 // The record at a place of a packet, from 0.
+#[tactic(auto, using(crate::proofs::Places::rewrites))]
 pub fn read<'a>(
     packet: &'a [u8],
     place: usize,
@@ -42,28 +62,13 @@ pub fn read<'a>(
     if place >= count {
         return Err(Refusal::PacketSize);
     }
-    let fields = fields_at(packet, place, settings, branch)?;
     let start = place * RECORD_SIZE;
-    let word = &packet[start + WORD..start + RECORD_SIZE];
+    let end = start + RECORD_SIZE;
+    let fields = record::read_fields(&packet[start..end], settings, branch)?;
+    let word = &packet[start + WORD..end];
     if place + 1 == count {
         Ok(Reading::Announcement { fields, word })
     } else {
         Ok(Reading::Support { fields, word })
     }
-}
-
-// The fields of the record at a place of a packet, or why the record is refused.
-#[tactic(auto, using(crate::proofs::Places::rewrites))]
-fn fields_at(
-    packet: &[u8],
-    place: usize,
-    settings: &Settings,
-    branch: u16,
-) -> Result<Fields, Refusal>
-    requires { place < places_in packet.now }
-    ensures answer { told (λ x. x) result ≡ fields_answer settings.now branch (record_at packet.now place) }
-    ensures back { IfOk result (λ f. Rewrites packet.now place f (word_at packet.now place)) }
-{
-    let start = place * RECORD_SIZE;
-    record::read_fields(&packet[start..start + RECORD_SIZE], settings, branch)
 }

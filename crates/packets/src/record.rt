@@ -2,10 +2,10 @@
 ghost use Rattle.std.specs.Prelude.{◌≡◌, length, take, IfOk};
 ghost use Rattle.settings.specs.Refusals.{told};
 ghost use Rattle.packets.specs.Format.{record_size, word_place};
-ghost use Rattle.packets.specs.Records.{fields_answer, head_bytes, highest_value, status_of};
+ghost use Rattle.packets.specs.Records.{fields_answer, head_bytes, highest_value, slot_of};
 
 use crate::format::{BRANCH, CABIN, PHASE, STATUS, VALUE, ZERO};
-use settings::{PhaseKind, Refusal, Settings, Status};
+use settings::{NO_PREFERENCE, PhaseKind, Refusal, Settings, Slot, Status};
 
 // What a record says besides its word.
 #[derive(Clone, Copy, PartialEq, Eq, Debug)]
@@ -15,6 +15,19 @@ pub struct Fields {
     pub status: Status,
     pub branch: u16,
     pub phase: u16,
+}
+
+impl Fields {
+    // What the record's word and its place of a table belong to.
+    pub fn slot(self) -> Slot
+        ensures { result ≡ slot_of self }
+    {
+        Slot {
+            cabin: self.cabin,
+            phase: self.phase,
+            value: self.value,
+        }
+    }
 }
 
 // The fields of a record's 40 bytes, or why the record is refused.
@@ -35,7 +48,8 @@ pub(crate) fn read_fields(bytes: &[u8], settings: &Settings, branch: u16) -> Res
     if value > highest(phase) {
         return Err(Refusal::Field);
     }
-    if bytes[STATUS] > 1 || bytes[ZERO] != 0 {
+    let status = Status::try_from(bytes[STATUS])?;
+    if bytes[ZERO] != 0 {
         return Err(Refusal::Field);
     }
     if u16::from_be_bytes([bytes[BRANCH], bytes[BRANCH + 1]]) != branch {
@@ -44,7 +58,7 @@ pub(crate) fn read_fields(bytes: &[u8], settings: &Settings, branch: u16) -> Res
     Ok(Fields {
         cabin,
         value,
-        status: status(bytes[STATUS]),
+        status,
         branch,
         phase,
     })
@@ -54,19 +68,8 @@ pub(crate) fn read_fields(bytes: &[u8], settings: &Settings, branch: u16) -> Res
 fn highest(phase: u16) -> u8
     ensures { result ≡ highest_value phase }
 {
-    match PhaseKind::of(phase) {
-        PhaseKind::Decide => 2,
+    match PhaseKind::from(phase) {
+        PhaseKind::Decide => NO_PREFERENCE,
         _ => 1,
-    }
-}
-
-// The status that a byte stands for.
-fn status(byte: u8) -> Status
-    ensures { result ≡ status_of byte }
-{
-    if byte == 1 {
-        Status::Decided
-    } else {
-        Status::Undecided
     }
 }

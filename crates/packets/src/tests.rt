@@ -90,12 +90,9 @@ fn values_by_phase(rt: HostRuntime) -> Result<(), Fail> {
     Ok(())
 }
 
-// Whether a record of a packet at a place is the announcement, with its fields and its word.
-fn parts(packet: &[u8], place: usize) -> Result<(bool, Fields, &[u8]), Refusal> {
-    match read(packet, place, &Settings::new(4, 1, 12)?, BRANCH)? {
-        Reading::Support { fields, word } => Ok((false, fields, word)),
-        Reading::Announcement { fields, word } => Ok((true, fields, word)),
-    }
+// The record of a packet at a place.
+fn reading(packet: &[u8], place: usize) -> Result<Reading, Refusal> {
+    read(packet, place, &Settings::new(4, 1, 12)?, BRANCH)
 }
 
 // Two records are written and read back; the last is the announcement.
@@ -118,9 +115,42 @@ fn written_records_read_back(rt: HostRuntime) -> Result<(), Fail> {
     let mut packet = [255; 80];
     write(&mut packet, 0, first, &[5; WORD_SIZE])?;
     write(&mut packet, 1, second, &[6; WORD_SIZE])?;
-    assert_eq!(rt; parts(&packet, 0)?, (false, first, &[5; WORD_SIZE][..]));
-    assert_eq!(rt; parts(&packet, 1)?, (true, second, &[6; WORD_SIZE][..]));
-    assert_eq!(rt; parts(&packet, 2).err(), Some(Refusal::PacketSize));
+    let support = Reading::Support {
+        fields: first,
+        word: &[5; WORD_SIZE],
+    };
+    let announcement = Reading::Announcement {
+        fields: second,
+        word: &[6; WORD_SIZE],
+    };
+    assert_eq!(rt; reading(&packet, 0)?, support);
+    assert_eq!(rt; reading(&packet, 1)?, announcement);
+    assert_eq!(rt; reading(&packet, 2).err(), Some(Refusal::PacketSize));
+    Ok(())
+}
+
+// A reading tells its fields and its word, and two readings are equal where they show the same.
+#[test]
+fn parts_of_readings(rt: HostRuntime) -> Result<(), Fail> {
+    let mut packet = [0; 80];
+    packet[..RECORD_SIZE].copy_from_slice(&LAWFUL);
+    packet[RECORD_SIZE..].copy_from_slice(&LAWFUL);
+    let fields = Fields {
+        cabin: 1,
+        value: 0,
+        status: Status::Decided,
+        branch: BRANCH,
+        phase: 2,
+    };
+    for place in 0..2 {
+        assert_eq!(rt; reading(&packet, place)?.fields(), fields);
+        assert_eq!(rt; reading(&packet, place)?.word(), &[9; WORD_SIZE][..]);
+    }
+    assert_ne!(rt; reading(&packet, 0)?, reading(&packet, 1)?);
+    let before = reading(&packet, 0)?;
+    let mut other = packet;
+    other[8] = 8;
+    assert_ne!(rt; reading(&other, 0)?, before);
     Ok(())
 }
 

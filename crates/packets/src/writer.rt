@@ -48,7 +48,7 @@ fn head(fields: Fields) -> [u8; WORD]
     [
         fields.cabin,
         fields.value,
-        fields.status.number(),
+        u8::from(fields.status),
         0,
         branch[0],
         branch[1],

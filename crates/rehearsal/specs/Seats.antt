@@ -6,7 +6,7 @@ use Rattle.table.specs.declared.place.Place.{Place}
 use Rattle.table.specs.declared.place.Place.TheVariants.{Empty}
 use Rattle.moves.specs.Opening.{open_answer}
 use Rattle.moves.specs.declared.state.State.{State}
-use Rattle.cabin_next.specs.Views.{cabin_state}
+use Rattle.cabin.specs.Views.{cabin_state}
 use Rattle.script.specs.Settings.{rehearsal_settings}
 use Rattle.script.specs.Stage.{Turn, opens_from}
 use Rattle.rehearsal.specs.declared.seat.Seat.{Seat}

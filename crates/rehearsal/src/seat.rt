@@ -3,7 +3,7 @@ ghost use Rattle.std.specs.Prelude.{◌≡◌, IfOk};
 ghost use Rattle.script.specs.Answers.{done_reply};
 ghost use Rattle.rehearsal.specs.Seats.{closed_seat, seat_opens, seat_view};
 
-use cabin_next::Cabin;
+use cabin::Cabin;
 use moves::State;
 use settings::Refusal;
 use std::alloc::{AllocError, Global};

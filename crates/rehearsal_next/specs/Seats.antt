@@ -9,7 +9,7 @@ use Rattle.moves.specs.Announcing.{Announced, announce_answer, marked}
 use Rattle.moves.specs.Hearing.{Told, hear_answer, hear_bits, hear_state, hear_table}
 use Rattle.moves.specs.Opening.{open_answer}
 use Rattle.moves.specs.declared.state.State.{State}
-use Rattle.cabin_next.specs.Views.{cabin_state}
+use Rattle.cabin.specs.Views.{cabin_state}
 use Rattle.script.specs.Settings.{rehearsal_settings}
 use Rattle.script.specs.Stage.{Turn, opens_from, refuses}
 use Rattle.rehearsal_next.specs.Answers.{heard_answer}

@@ -9,7 +9,7 @@ use crate::Answer;
 use crate::coin::coin;
 use crate::packet::Packet;
 use crate::wordlist::Words;
-use cabin_next::Cabin;
+use cabin::Cabin;
 use coins::RegisterCoin;
 use moves::State;
 use settings::Refusal;

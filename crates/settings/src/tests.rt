@@ -1,4 +1,6 @@
 // The bounds of settings, the quorums and the kinds of a phase on examples.
+ghost use Rattle.std.specs.Prelude.{◌≡◌, Decides};
+
 use super::*;
 use std::test::Fail;
 
@@ -64,4 +66,17 @@ fn statuses_by_number(rt: HostRuntime) {
     for number in [2, 255] {
         assert_eq!(rt; Status::try_from(number), Err(Refusal::Field));
     }
+}
+
+// `==` of refusals says exactly whether they are the same, as the contract here shows of every two.
+fn are_the_same(refusal: Refusal, other: Refusal) -> bool
+    ensures { Decides result (refusal ≡ other) }
+{
+    refusal == other
+}
+
+#[test]
+fn refusals_equal_only_themselves(rt: HostRuntime) {
+    assert!(rt; are_the_same(Refusal::Step, Refusal::Step));
+    assert!(rt; !are_the_same(Refusal::Step, Refusal::HallSize));
 }

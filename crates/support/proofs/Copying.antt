@@ -1,8 +1,8 @@
 -- What copying a record adds to the chosen ones, and how additions join.
-use Rattle.std.proofs.Common.{◌≡◌, ℕ, ◌+◌, ◌-◌, ◌*◌, ◌/◌, ◌<◌, ◌≤◌, Bool, true, false, ◌&&◌, ltb, leb, ◌⊎◌, List, length, get_or, set, Some, None, sym, refl, ap, ◌∙◌, subst, inl, inr, add_assoc, arith}
+use Rattle.std.proofs.Common.{◌≡◌, ℕ, ◌+◌, ◌-◌, ◌*◌, ◌/◌, ◌<◌, ◌≤◌, Bool, true, false, ◌&&◌, ltb, leb, List, length, get_or, set, Some, None, sym, refl, ap, ◌∙◌, subst, inl, inr, add_assoc, arith}
 use Rattle.std.proofs.lemmas.Nat.{div-mul-add, mul-add-lt}
-use Rattle.std.proofs.lemmas.List.{get_or_past, get_or-set_other, get_or-set_same, set_past}
-use Rattle.std.proofs.lemmas.Bool.{and_from, and_parts, both_ways, cases_Bool, cases_eq, cond-true, leb-true, ltb-true}
+use Rattle.std.proofs.lemmas.List.{get_or_past, get_or-set_other, get_or-set_same}
+use Rattle.std.proofs.lemmas.Bool.{and_from, and_parts, both_ways, cases_Bool, cases_eq, cases_lt, cond-true, leb-true, ltb-true}
 use Rattle.settings.specs.declared.settings.Settings.{Settings}
 use Rattle.agreement.specs.Books.{Within}
 use Rattle.table.specs.Places.{filled_at, in_table, is_filled, place_answer, place_of, records_at, records_of}
@@ -133,19 +133,19 @@ copy_nowhere s t φ i v has nowhere =
     let z : ◌≡◌ {A = ℕ} 0 1 = cc in
     omega arith
 
-copy_past : (s : Settings) (t : List Place) (φ i v place : ℕ) → records_of s t φ i v ≡ true → Some place ≡ place_answer s φ i v → length t ≤ place → ⊥
-copy_past s t φ i v place has is past =
-    let there = has_place s (filled_at t) φ i v has in
-    let same : place ≡ place_of s φ i v = cc in
-    let empty : filled_at t (place_of s φ i v) ≡ false = rw (get_or_past t (place_of s φ i v) Empty (omega arith)) refl in
-    both_ways (filled_at t (place_of s φ i v)) empty (picked_from s (filled_at t) φ i v has)
+-- so its place is the one that is found, is within the table and is among the places of the largest hall
+pub copy_place : (s : Settings) (t : List Place) (φ i v place : ℕ) → records_of s t φ i v ≡ true → Some place ≡ place_answer s φ i v → place ≡ place_of s φ i v
+copy_place s t φ i v place has is = let there = has_place s (filled_at t) φ i v has in cc
 
--- where the place is not in one of the tables, nothing is to be copied
-pub copy_outside : (s : Settings) (t m : List Place) (φ i v place : ℕ) → records_of s t φ i v ≡ true → Some place ≡ place_answer s φ i v → ((place < length t) × (length m ≤ place)) ⊎ (length t ≤ place) → m ≡ copied s t m φ i v
-copy_outside s t m φ i v place has is outside =
-    let there = has_place s (filled_at t) φ i v has in
-    let same : place ≡ place_of s φ i v = cc in
-    elim outside [
-      | inl past ↦ sym (set_past m (place_of s φ i v) (get_or t (place_of s φ i v) Empty) (omega (arith, past.1)))
-      | inr past ↦ absurd (copy_past s t φ i v place has is past)
+pub copy_within : (s : Settings) (t : List Place) (φ i v place : ℕ) → records_of s t φ i v ≡ true → Some place ≡ place_answer s φ i v → place < length t
+copy_within s t φ i v place has is =
+    let same = copy_place s t φ i v place has is in
+    elim (cases_lt place (length t)) [
+      | inl below ↦ below
+      | inr past ↦
+          let empty : filled_at t (place_of s φ i v) ≡ false = rw (get_or_past t (place_of s φ i v) Empty (omega arith)) refl in
+          absurd (both_ways (filled_at t (place_of s φ i v)) empty (picked_from s (filled_at t) φ i v has))
     ]
+
+pub copy_fits : (s : Settings) (t : List Place) (φ i v place : ℕ) → records_of s t φ i v ≡ true → Some place ≡ place_answer s φ i v → place < most_places
+copy_fits s t φ i v place has is = omega (arith, copy_place s t φ i v place has is, place_within s φ i v (found_from s (filled_at t) φ i v has))

@@ -1,23 +1,12 @@
--- A list of places: one more, one of them, and the members of a set one by one.
-use Rattle.std.proofs.Common.{◌≡◌, ℕ, suc, ◌+◌, ◌<◌, ◌≤◌, Bool, true, false, eqb, List, [], ◌∷◌, ◌++◌, length, get_or, take, set, Some, sym, refl, ap, subst, inl, inr, add-one, arith}
-use Rattle.std.proofs.lemmas.List.{get_or_append_left, get_or_push, get_or-take, length_push, length-take-le, take_more_set}
-use Rattle.std.proofs.lemmas.Bool.{both_ways, cases_eq, eq-eqb, lt-ltb, or_cases, or_left, or_right}
+-- A list of places: the members of a set one by one.
+use Rattle.std.proofs.Common.{◌≡◌, ℕ, suc, ◌+◌, ◌<◌, ◌≤◌, Bool, true, false, eqb, List, [], ◌∷◌, ◌++◌, length, get_or, sym, refl, ap, subst, inl, inr, add-one, arith}
+use Rattle.std.proofs.lemmas.List.{get_or_append_left, get_or_push, length_push}
+use Rattle.std.proofs.lemmas.Bool.{both_ways, cases_eq, eq-eqb, or_cases, or_left, or_right}
 use Rattle.agreement.specs.Counting.{count}
 use Rattle.agreement.proofs.Counting.{count_in, count_out, count_zero}
 use Rattle.support.specs.Support.{is_among, most_support}
-use Rattle.support.specs.View.{place_at}
 use Rattle.support.specs.Passes.{Listed}
 use Rattle.support.proofs.Counting.{count_upto}
-
--- one more place at the end
-pub pushed : (places : List ℕ) (n i place : ℕ) → i ≡ n → n < length places → take (n + 1) (set places i place) ≡ take n places ++ place ∷ []
-pushed places n i place same within = rw same (take_more_set places n place within)
-
--- one of the places
-pub placed : (places : List ℕ) (n a x : ℕ) → x ≡ get_or places a 0 → a < length (take n places) → n ≤ length places → Some x ≡ place_at (take n places) a
-placed places n a x is within fits =
-    let below : a < n = omega (arith, length-take-le n places fits) in
-    rw (lt-ltb a (length (take n places)) within, get_or-take n places a 0 below, is) refl
 
 among_left : (xs ys : List ℕ) (k : ℕ) → is_among xs k ≡ true → is_among (xs ++ ys) k ≡ true
 among_left [] ys k e = absurd (both_ways false refl e)

@@ -15,7 +15,7 @@ use Rattle.table.specs.Places.{records_of}
 use Rattle.table.specs.Rules.{hall_of, meets_status, meets_value}
 use Rattle.table.specs.declared.place.Place.{Place}
 use Rattle.support.specs.Passes.{Adds, Carries, EnoughFor, Serves, most_quorum, most_rule}
-use Rattle.support.proofs.Copying.{adds_more, adds_wider, adds_within}
+use Rattle.support.proofs.Copying.{adds_wider, adds_within}
 
 -- the quorums of every hall
 quorum_small : (s : Settings) → quorum_of s.cabins s.faults ≤ most_quorum
@@ -86,10 +86,10 @@ module _ (s : Settings) (t m m' : List Place) (φ ψ : ℕ) where
       (or_right (has_quorum (hall_of s) u (φ - 2) v) (has_quorum (hall_of s) u (φ - 1) 2)
       (subst (λ (x : ℕ). has_quorum (hall_of s) u x 2 ≡ true) before (carries u within met)))
 
-  pub serves_before : (v k : ℕ) → Converge ≡ kind_of φ → ψ ≡ φ - 1 → k ≡ quorum_of s.cabins s.faults → k ≤ tally s.cabins (records_of s t) ψ 2 → Adds s t ψ ψ k m m' → EnoughFor s t m' ψ 2 k → Serves s t φ most_rule (λ u. meets_value s u φ v) m m'
+  pub serves_before : (v k : ℕ) → Converge ≡ kind_of φ → ψ ≡ φ - 1 → k ≡ quorum_of s.cabins s.faults → true ≡ has_quorum (hall_of s) (records_of s t) ψ 2 → Adds s t ψ ψ k m m' → EnoughFor s t m' ψ 2 k → Serves s t φ most_rule (λ u. meets_value s u φ v) m m'
   serves_before v k kind before is met adds enough = record {
     adds = recent k most_rule (omega arith) (omega arith) (omega (arith, quorum_small s)) adds;
-    carries = by_kind Converge v kind (carries_before v before (le-leb _ _ (omega arith)) (carries_quorum 2 k is enough));
+    carries = by_kind Converge v kind (carries_before v before (sym met) (carries_quorum 2 k is enough));
   }
 
   -- and where it has none
@@ -109,13 +109,11 @@ module _ (s : Settings) (t m m' : List Place) (φ ψ : ℕ) where
             ])
       ]
 
-  pub serves_second : (v k ω : ℕ) → Converge ≡ kind_of φ → ψ ≡ φ - 2 → ω ≡ φ - 1 → k ≡ quorum_of s.cabins s.faults → tally s.cabins (records_of s t) ω 2 < k → Adds s t ψ ψ k m m' → EnoughFor s t m' ψ v k → Serves s t φ most_rule (λ u. meets_value s u φ v) m m'
-  serves_second v k ω kind second before is missed adds enough =
-      let few : has_quorum (hall_of s) (records_of s t) ω 2 ≡ false = lt-leb _ _ (omega arith) in
-      record {
-        adds = recent k most_rule (omega arith) (omega arith) (omega (arith, quorum_small s)) adds;
-        carries = by_kind Converge v kind (carries_second v second (subst (λ (x : ℕ). has_quorum (hall_of s) (records_of s t) x 2 ≡ false) before few) (carries_quorum v k is enough));
-      }
+  pub serves_second : (v k ω : ℕ) → Converge ≡ kind_of φ → ψ ≡ φ - 2 → ω ≡ φ - 1 → k ≡ quorum_of s.cabins s.faults → false ≡ has_quorum (hall_of s) (records_of s t) ω 2 → Adds s t ψ ψ k m m' → EnoughFor s t m' ψ v k → Serves s t φ most_rule (λ u. meets_value s u φ v) m m'
+  serves_second v k ω kind second before is missed adds enough = record {
+    adds = recent k most_rule (omega arith) (omega arith) (omega (arith, quorum_small s)) adds;
+    carries = by_kind Converge v kind (carries_second v second (rw (← before) (sym missed)) (carries_quorum v k is enough));
+  }
 
   -- an undecided record after the first cycle
   carries_undecided : (v : ℕ) → ψ ≡ last_lock φ → 3 < φ → Carries s t m' (λ u. both_held s.cabins s.faults u ψ) → Carries s t m' (λ u. meets_status s u φ v Undecided)
@@ -129,15 +127,10 @@ module _ (s : Settings) (t m m' : List Place) (φ ψ : ℕ) where
   }
 
 -- a weak quorum for each course
-module _ (s : Settings) (t : List Place) (φ h k : ℕ) (m m' m'' : List Place) (first : h ≡ weak_quorum_of s.cabins s.faults) (second : k ≡ weak_quorum_of s.cabins s.faults) where
-  pub both_adds : Adds s t φ φ h m m' → Adds s t φ φ k m' m'' → Adds s t φ φ most_rule m m''
-  both_adds adds adds' =
-      adds_wider s t φ φ (h + k) φ φ most_rule m m'' (omega arith) (omega arith) (omega (arith, weak_quorum_small s)) (adds_more s t φ φ h k m m' m'' adds adds')
-
-  pub both_carries : EnoughFor s t m' φ 0 h → Adds s t φ φ k m' m'' → EnoughFor s t m'' φ 1 k → Carries s t m'' (λ u. both_held s.cabins s.faults u φ)
-  both_carries enough adds' enough' u within e =
-      let zero = subst (λ (x : ℕ). Carries s t m' (λ u. leb x (tally s.cabins u φ 0))) first (carries_for s t m' φ 0 h enough) in
-      let one = subst (λ (x : ℕ). Carries s t m'' (λ u. leb x (tally s.cabins u φ 1))) second (carries_for s t m'' φ 1 k enough') in
-      let kept = carries_more s t m' m'' (λ u. has_weak_quorum s.cabins s.faults u φ 0) (adds_within s t φ φ k m' m'' adds') zero in
-      let parts = and_parts (has_weak_quorum s.cabins s.faults (records_of s t) φ 0) (has_weak_quorum s.cabins s.faults (records_of s t) φ 1) e in
-      and_from (has_weak_quorum s.cabins s.faults u φ 0) (has_weak_quorum s.cabins s.faults u φ 1) (kept u within parts.0) (one u within parts.1)
+pub both_carries : (s : Settings) (t : List Place) (φ k : ℕ) (m m' : List Place) → k ≡ weak_quorum_of s.cabins s.faults → EnoughFor s t m φ 0 k → Adds s t φ φ k m m' → EnoughFor s t m' φ 1 k → Carries s t m' (λ u. both_held s.cabins s.faults u φ)
+both_carries s t φ k m m' is enough adds enough' u within e =
+    let zero = subst (λ (x : ℕ). Carries s t m (λ u. leb x (tally s.cabins u φ 0))) is (carries_for s t m φ 0 k enough) in
+    let one = subst (λ (x : ℕ). Carries s t m' (λ u. leb x (tally s.cabins u φ 1))) is (carries_for s t m' φ 1 k enough') in
+    let kept = carries_more s t m m' (λ u. has_weak_quorum s.cabins s.faults u φ 0) (adds_within s t φ φ k m m' adds) zero in
+    let parts = and_parts (has_weak_quorum s.cabins s.faults (records_of s t) φ 0) (has_weak_quorum s.cabins s.faults (records_of s t) φ 1) e in
+    and_from (has_weak_quorum s.cabins s.faults u φ 0) (has_weak_quorum s.cabins s.faults u φ 1) (kept u within parts.0) (one u within parts.1)

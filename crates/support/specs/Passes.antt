@@ -1,6 +1,7 @@
 -- What is asked of each pass that chooses records: tables as large as the largest hall's, of which every filled place is
 -- chosen. Assumes nothing.
-use Rattle.std.specs.Prelude.{◌≡◌, ℕ, ◌+◌, ◌-◌, ◌<◌, ◌≤◌, Bool, true, false, cond, List, length, Some, None, Option, slice_index, slice_index_or, slice_set}
+use Rattle.std.specs.Prelude.{◌≡◌, ℕ, ◌+◌, ◌-◌, ◌<◌, ◌≤◌, Bool, true, false, List, length, Some, None, Option, slice_index, slice_index_or, slice_set}
+use Rattle.std.specs.List.{find, list_any}
 use Rattle.settings.specs.declared.settings.Settings.{Settings}
 use Rattle.agreement.specs.Books.{Within}
 use Rattle.agreement.specs.Counting.{count}
@@ -38,6 +39,14 @@ EnoughFor s t m φ v k = (u : Table) → Within (records_of s m) u → k ≤ tal
 abbrev pub EnoughIn : Settings → List Place → List Place → ℕ → ℕ → Type 0
 EnoughIn s t m φ k = (u : Table) → Within (records_of s m) u → k ≤ turnout (hall_of s) (records_of s t) φ → k ≤ turnout (hall_of s) u φ
 
+-- whether cabin j has a record for phase φ with one of the values vs
+abbrev pub said : Table → ℕ → List ℕ → ℕ → Bool
+said t φ vs j = list_any (t φ j) vs
+
+-- the same of cabins with a record for phase φ with one of the values vs
+abbrev pub EnoughOf : Settings → List Place → List Place → ℕ → List ℕ → ℕ → Type 0
+EnoughOf s t m φ vs k = (u : Table) → Within (records_of s m) u → k ≤ count (said (records_of s t) φ vs) s.cabins → k ≤ count (said u φ vs) s.cabins
+
 -- Where a rule holds of t, it holds of whatever has grown out of m.
 abbrev pub Carries : Settings → List Place → List Place → (Table → Bool) → Type 0
 Carries s t m rule = (u : Table) → Within (records_of s m) u → rule (records_of s t) ≡ true → rule u ≡ true
@@ -55,17 +64,17 @@ most_rule = 12
 abbrev pub most_quorum : ℕ
 most_quorum = 11
 
--- a cabin's lowest value in phase φ, if it has a record
-abbrev pub lowest_value : Table → ℕ → ℕ → Option ℕ
-lowest_value t φ i = cond (t φ i 0) (Some 0) (cond (t φ i 1) (Some 1) (cond (t φ i 2) (Some 2) None))
+-- the first of the values vs with which cabin i has a record for phase φ
+abbrev pub first_value : Table → ℕ → ℕ → List ℕ → Option ℕ
+first_value t φ i vs = find (t φ i) vs
 
 -- the same where nothing of that cabin is chosen yet
 abbrev pub missing_from : Option ℕ → Option ℕ → Option ℕ
 missing_from (Some v) r = None
 missing_from None r = r
 
-abbrev pub missing_value : Table → Table → ℕ → ℕ → Option ℕ
-missing_value t m φ i = missing_from (lowest_value m φ i) (lowest_value t φ i)
+abbrev pub missing_value : Table → Table → ℕ → ℕ → List ℕ → Option ℕ
+missing_value t m φ i vs = missing_from (first_value m φ i vs) (first_value t φ i vs)
 
 -- The numbers of a set below n are listed, each once and in rising order.
 pub record Listed (A : ℕ → Bool) (n : ℕ) (ks : List ℕ) : Type 0 where

@@ -6,6 +6,7 @@ mod chosen;
 mod support;
 
 pub use choice::choose;
+use chosen::Chosen;
 pub use support::Support;
 
 #[cfg(test)]

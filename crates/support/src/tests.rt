@@ -4,7 +4,7 @@ use super::*;
 use settings::{Settings, Status};
 use std::process::Abort;
 use std::test::Fail;
-use table::Place;
+use table::{Place, Table};
 
 // The places of a hall with six phases.
 const SIZE: usize = 72;
@@ -36,17 +36,13 @@ fn check_places(rt: &impl Abort, support: Support, places: &[u16]) {
 #[test]
 fn lock(rt: HostRuntime) -> Result<(), Fail> {
     let settings = Settings::new(4, 1, 6)?;
-    let table = table_of(&[0, 3, 7, 10]);
-    check_places(
-        &rt,
-        choose(&settings, &table, 2, 0, Status::Undecided),
-        &[0, 3, 7],
-    );
-    check_places(
-        &rt,
-        choose(&settings, &table, 2, 1, Status::Undecided),
-        &[0, 7, 10],
-    );
+    let places = table_of(&[0, 3, 7, 10]);
+    let table = Table {
+        settings,
+        places: &places,
+    };
+    check_places(&rt, choose(table, 2, 0, Status::Undecided), &[0, 3, 7]);
+    check_places(&rt, choose(table, 2, 1, Status::Undecided), &[0, 7, 10]);
     Ok(())
 }
 
@@ -55,10 +51,14 @@ fn lock(rt: HostRuntime) -> Result<(), Fail> {
 #[test]
 fn converge_undecided(rt: HostRuntime) -> Result<(), Fail> {
     let settings = Settings::new(4, 1, 6)?;
-    let table = table_of(&[12, 15, 19, 22, 26, 29, 32, 35]);
+    let places = table_of(&[12, 15, 19, 22, 26, 29, 32, 35]);
+    let table = Table {
+        settings,
+        places: &places,
+    };
     check_places(
         &rt,
-        choose(&settings, &table, 4, 1, Status::Undecided),
+        choose(table, 4, 1, Status::Undecided),
         &[12, 15, 19, 22, 26, 29, 32],
     );
     Ok(())
@@ -68,22 +68,22 @@ fn converge_undecided(rt: HostRuntime) -> Result<(), Fail> {
 #[test]
 fn converge_decided(rt: HostRuntime) -> Result<(), Fail> {
     let settings = Settings::new(4, 1, 6)?;
-    let table = table_of(&[12, 15, 18, 21, 24, 27, 30, 33]);
+    let places = table_of(&[12, 15, 18, 21, 24, 27, 30, 33]);
+    let table = Table {
+        settings,
+        places: &places,
+    };
     check_places(
         &rt,
-        choose(&settings, &table, 4, 0, Status::Decided),
+        choose(table, 4, 0, Status::Decided),
         &[12, 15, 18, 24, 27, 30],
     );
-    check_places(
-        &rt,
-        choose(&settings, &table, 4, 1, Status::Decided),
-        &[24, 27, 30],
-    );
-    check_places(&rt, choose(&settings, &table, 1, 0, Status::Undecided), &[]);
-    check_places(
-        &rt,
-        choose(&settings, &table, 65535, 0, Status::Undecided),
-        &[],
-    );
+    check_places(&rt, choose(table, 4, 1, Status::Decided), &[24, 27, 30]);
+    check_places(&rt, choose(table, 1, 0, Status::Undecided), &[]);
+    let table = Table {
+        settings,
+        places: &places,
+    };
+    check_places(&rt, choose(table, 65535, 0, Status::Undecided), &[]);
     Ok(())
 }

@@ -5,11 +5,12 @@ mod counts;
 mod layout;
 mod place;
 mod rules;
+mod view;
 
-pub use counts::{count, turnout};
-pub use layout::{filled_at, is_filled, place_of, places};
+pub use layout::{filled_at, place_of, places};
 pub use place::Place;
-pub use rules::{has_quorum, last_decide, last_lock, phase_rule, status_rule, value_rule};
+pub use rules::{last_decide, last_lock};
+pub use view::Table;
 
 #[cfg(test)]
 mod tests;

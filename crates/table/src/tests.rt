@@ -1,17 +1,17 @@
 // Places, counts and rules on examples: a hall of four cabins of which one may be faulty, so the quorum is 3 and the weak
 // quorum 2.
 use super::*;
-use settings::{Settings, Status};
+use settings::{Settings, Slot, Status};
 use std::test::Fail;
 
 // The places of a hall with six phases.
 const SIZE: usize = 72;
 
-// Fills the place of a record.
-fn put(settings: &Settings, table: &mut [Place; SIZE], phase: u16, cabin: u8, value: u8) {
-    if let Some(place) = place_of(settings, phase, cabin, value) {
-        if place < SIZE {
-            table[place] = Place::Filled {
+// Fills the place of a slot.
+fn put(settings: &Settings, places: &mut [Place; SIZE], slot: Slot) {
+    if let Some(place) = place_of(settings, slot) {
+        if let Some(held) = places.get_mut(place) {
+            *held = Place::Filled {
                 status: Status::Undecided,
                 word: [7; 32],
             };
@@ -19,13 +19,25 @@ fn put(settings: &Settings, table: &mut [Place; SIZE], phase: u16, cabin: u8, va
     }
 }
 
-// A table with these records, each a phase, a cabin and a value.
-fn table_of(settings: &Settings, records: &[(u16, u8, u8)]) -> [Place; SIZE] {
-    let mut table = [Place::Empty; SIZE];
-    for (phase, cabin, value) in records {
-        put(settings, &mut table, *phase, *cabin, *value);
+// The places of a table with these records, each a phase, a cabin and a value.
+fn places_with(settings: &Settings, records: &[(u16, u8, u8)]) -> [Place; SIZE] {
+    let mut places = [Place::Empty; SIZE];
+    for &(phase, cabin, value) in records {
+        put(settings, &mut places, slot(phase, cabin, value));
     }
-    table
+    places
+}
+
+fn slot(phase: u16, cabin: u8, value: u8) -> Slot {
+    Slot {
+        cabin,
+        phase,
+        value,
+    }
+}
+
+fn table_of(settings: Settings, places: &[Place]) -> Table<'_> {
+    Table { settings, places }
 }
 
 #[test]
@@ -50,7 +62,7 @@ fn places_by_phase_cabin_and_value(rt: HostRuntime) -> Result<(), Fail> {
         (1, 4, 0, None),
         (1, 0, 3, None),
     ] {
-        assert_eq!(rt; place_of(&settings, phase, cabin, value), place);
+        assert_eq!(rt; place_of(&settings, slot(phase, cabin, value)), place);
     }
     Ok(())
 }
@@ -58,12 +70,13 @@ fn places_by_phase_cabin_and_value(rt: HostRuntime) -> Result<(), Fail> {
 #[test]
 fn cabins_are_counted_once(rt: HostRuntime) -> Result<(), Fail> {
     let settings = Settings::new(4, 1, 6)?;
-    let table = table_of(
+    let places = places_with(
         &settings,
         &[(1, 0, 0), (1, 1, 0), (1, 1, 1), (1, 3, 2), (2, 2, 1)],
     );
-    assert!(rt; is_filled(&settings, &table, 1, 3, 2));
-    assert!(rt; !is_filled(&settings, &table, 1, 3, 1));
+    let table = table_of(settings, &places);
+    assert!(rt; table.has(slot(1, 3, 2)));
+    assert!(rt; !table.has(slot(1, 3, 1)));
     for (phase, value, cabins) in [
         (1, 0, 2),
         (1, 1, 1),
@@ -72,10 +85,10 @@ fn cabins_are_counted_once(rt: HostRuntime) -> Result<(), Fail> {
         (2, 0, 0),
         (0, 0, 0),
     ] {
-        assert_eq!(rt; count(&settings, &table, phase, value), cabins);
+        assert_eq!(rt; table.count(phase, value), cabins);
     }
     for (phase, cabins) in [(0, 0), (1, 3), (2, 1), (3, 0), (65535, 0)] {
-        assert_eq!(rt; turnout(&settings, &table, phase), cabins);
+        assert_eq!(rt; table.turnout(phase), cabins);
     }
     Ok(())
 }
@@ -83,7 +96,7 @@ fn cabins_are_counted_once(rt: HostRuntime) -> Result<(), Fail> {
 #[test]
 fn rules_of_the_first_cycle(rt: HostRuntime) -> Result<(), Fail> {
     let settings = Settings::new(4, 1, 6)?;
-    let mut table = table_of(
+    let mut places = places_with(
         &settings,
         &[
             (1, 0, 0),
@@ -96,7 +109,7 @@ fn rules_of_the_first_cycle(rt: HostRuntime) -> Result<(), Fail> {
         ],
     );
     for (phase, holds) in [(1, true), (2, true), (3, true), (4, false)] {
-        assert_eq!(rt; phase_rule(&settings, &table, phase), holds);
+        assert_eq!(rt; table_of(settings, &places).phase_rule(phase), holds);
     }
     for (phase, value, holds) in [
         (1, 1, true),
@@ -108,17 +121,17 @@ fn rules_of_the_first_cycle(rt: HostRuntime) -> Result<(), Fail> {
         (4, 0, true),
         (4, 1, false),
     ] {
-        assert_eq!(rt; value_rule(&settings, &table, phase, value), holds);
+        assert_eq!(rt; table_of(settings, &places).value_rule(phase, value), holds);
     }
-    put(&settings, &mut table, 1, 3, 1);
-    assert!(rt; value_rule(&settings, &table, 3, 2));
+    put(&settings, &mut places, slot(1, 3, 1));
+    assert!(rt; table_of(settings, &places).value_rule(3, 2));
     Ok(())
 }
 
 #[test]
 fn rules_of_status(rt: HostRuntime) -> Result<(), Fail> {
     let settings = Settings::new(4, 1, 6)?;
-    let mut table = table_of(
+    let mut places = places_with(
         &settings,
         &[
             (2, 0, 0),
@@ -129,12 +142,12 @@ fn rules_of_status(rt: HostRuntime) -> Result<(), Fail> {
             (3, 2, 0),
         ],
     );
-    assert!(rt; status_rule(&settings, &table, 3, 0, Status::Undecided));
-    assert!(rt; !status_rule(&settings, &table, 3, 0, Status::Decided));
-    assert!(rt; status_rule(&settings, &table, 4, 0, Status::Decided));
-    assert!(rt; !status_rule(&settings, &table, 4, 1, Status::Decided));
-    assert!(rt; !status_rule(&settings, &table, 4, 0, Status::Undecided));
-    put(&settings, &mut table, 2, 3, 1);
-    assert!(rt; status_rule(&settings, &table, 4, 0, Status::Undecided));
+    assert!(rt; table_of(settings, &places).status_rule(3, 0, Status::Undecided));
+    assert!(rt; !table_of(settings, &places).status_rule(3, 0, Status::Decided));
+    assert!(rt; table_of(settings, &places).status_rule(4, 0, Status::Decided));
+    assert!(rt; !table_of(settings, &places).status_rule(4, 1, Status::Decided));
+    assert!(rt; !table_of(settings, &places).status_rule(4, 0, Status::Undecided));
+    put(&settings, &mut places, slot(2, 3, 1));
+    assert!(rt; table_of(settings, &places).status_rule(4, 0, Status::Undecided));
     Ok(())
 }

@@ -1,6 +1,6 @@
 -- Own words that pass, one by one and all together.
-use Rattle.std.proofs.Common.{◌≡◌, ℕ, zero, suc, ◌+◌, ◌-◌, ◌*◌, ◌/◌, ◌%◌, ◌<◌, Bool, true, false, ◌&&◌, leb, List, sym, refl, ◌∙◌, subst, inl, inr, add-one, arith}
-use Rattle.std.proofs.lemmas.Bool.{and_left, and_parts, cases_eq, cond-false, cond-true, leb-true}
+use Rattle.std.proofs.Common.{◌≡◌, ℕ, zero, suc, ◌+◌, ◌-◌, ◌*◌, ◌/◌, ◌%◌, ◌<◌, ◌≤◌, true, false, ◌&&◌, leb, List, sym, refl, ◌∙◌, inl, inr, arith}
+use Rattle.std.proofs.lemmas.Bool.{and_from, and_parts, cases_Bool, cases_eq, cond-false, cond-true, le-leb, leb-true, true≢false}
 use Rattle.words.specs.Checks.{ListView, hashed_answers, in_range}
 use Rattle.words.specs.Own.{own_or_zeros, own_pass, own_word}
 use Rattle.words.specs.Words.{zero_word}
@@ -9,14 +9,26 @@ pub own_pass_none : (l : ListView) (i : ℕ) (own : List ℕ) → own_pass l i o
 unfolding own_pass
 own_pass_none l i own = refl
 
--- one own word more: it passes and so do those before it, or one before it does not
-pub own_pass_more : (l : ListView) (i : ℕ) (own : List ℕ) (k : ℕ) (all one : Bool) → all ≡ own_pass l i own k → one ≡ hashed_answers l i (k / 3 + 1) (k % 3) (own_word own k) → (all && one) ≡ own_pass l i own (k + 1)
-unfolding own_pass
-own_pass_more l i own k all one before here = rw (add-one k, before, here)
+-- a lawful phase and value
+lawful : (last φ v : ℕ) → 1 ≤ φ → φ ≤ last → v ≤ 2 → in_range last φ v ≡ true
+lawful last φ v begun ended valued =
+    and_from (leb 1 φ) (leb φ last && leb v 2) (le-leb 1 φ begun) (and_from (leb φ last) (leb v 2) (le-leb φ last ended) (le-leb v 2 valued))
 
-pub own_pass_ended : (l : ListView) (i : ℕ) (own : List ℕ) (k : ℕ) (all : Bool) → all ≡ own_pass l i own k → all ≡ false → all ≡ own_pass l i own (k + 1)
-own_pass_ended l i own k all before failed =
-    let more = own_pass_more l i own k all _ before refl in failed ∙ (sym (and_left all _ failed) ∙ more)
+-- the check of the own word for such a phase and value
+answers_at : (l : ListView) (i : ℕ) (own : List ℕ) (last φ v : ℕ) (word : List ℕ) → 1 ≤ φ → φ ≤ last → v ≤ 2 → word ≡ own_or_zeros last own φ v → hashed_answers l i ((3 * (φ - 1) + v) / 3 + 1) ((3 * (φ - 1) + v) % 3) (own_word own (3 * (φ - 1) + v)) ≡ hashed_answers l i φ v word
+answers_at l i own last φ v word begun ended valued given =
+    let k = 3 * (φ - 1) + v in
+    let phase : k / 3 + 1 ≡ φ = omega arith in
+    let value : k % 3 ≡ v = omega arith in
+    let here : word ≡ own_word own k = given ∙ cond-true (in_range last φ v) (own_word own k) zero_word (lawful last φ v begun ended valued) in
+    rw (phase, value, here) refl
+
+-- where it passes and those before it do, one own word more passes
+pub own_pass_more : (l : ListView) (i : ℕ) (own : List ℕ) (last φ v : ℕ) (word : List ℕ) → 1 ≤ φ → φ ≤ last → v ≤ 2 → word ≡ own_or_zeros last own φ v → hashed_answers l i φ v word ≡ true → own_pass l i own (3 * (φ - 1) + v) ≡ true → own_pass l i own (3 * (φ - 1) + (v + 1)) ≡ true
+unfolding own_pass
+own_pass_more l i own last φ v word begun ended valued given passed before =
+    let next : 3 * (φ - 1) + (v + 1) ≡ suc (3 * (φ - 1) + v) = omega arith in
+    rw (next, before) (answers_at l i own last φ v word begun ended valued given ∙ passed)
 
 -- where the first m pass, the k-th does
 own_pass_at : (l : ListView) (i : ℕ) (own : List ℕ) (m k : ℕ) → own_pass l i own m ≡ true → k < m → hashed_answers l i (k / 3 + 1) (k % 3) (own_word own k) ≡ true
@@ -30,19 +42,23 @@ own_pass_at l i own (suc m) k all below =
     ]
 
 -- so the own word for each phase and value does
-pub own_passes : (l : ListView) (i : ℕ) (own : List ℕ) (φ v : ℕ) (word : List ℕ) → own_pass l i own (3 * l.phases) ≡ true → word ≡ own_or_zeros l.phases own φ v → in_range l.phases φ v ≡ true → hashed_answers l i φ v word ≡ true
-own_passes l i own φ v word all given lawful =
-    let begun = and_parts (leb 1 φ) (leb φ l.phases && leb v 2) lawful in
-    let ended = and_parts (leb φ l.phases) (leb v 2) begun.1 in
-    let lower = leb-true 1 φ begun.0 in
-    let upper = leb-true φ l.phases ended.0 in
-    let valued = leb-true v 2 ended.1 in
-    let k = 3 * (φ - 1) + v in
-    let phase : k / 3 + 1 ≡ φ = omega arith in
-    let value : k % 3 ≡ v = omega arith in
-    let at = own_pass_at l i own (3 * l.phases) k all (omega arith) in
-    let entry : word ≡ own_word own k = given ∙ cond-true (in_range l.phases φ v) (own_word own k) zero_word lawful in
-    rw entry (subst (λ (ψ : ℕ). hashed_answers l i ψ v (own_word own k) ≡ true) phase (subst (λ (w : ℕ). hashed_answers l i (k / 3 + 1) w (own_word own k) ≡ true) value at))
+own_passes_at : (l : ListView) (i : ℕ) (own : List ℕ) (last φ v : ℕ) (word : List ℕ) → own_pass l i own (3 * last) ≡ true → 1 ≤ φ → φ ≤ last → v ≤ 2 → word ≡ own_or_zeros last own φ v → hashed_answers l i φ v word ≡ true
+own_passes_at l i own last φ v word all begun ended valued given =
+    sym (answers_at l i own last φ v word begun ended valued given) ∙ own_pass_at l i own (3 * last) (3 * (φ - 1) + v) all (omega arith)
+
+pub own_passes : (l : ListView) (i : ℕ) (own : List ℕ) (last φ v : ℕ) (word : List ℕ) → own_pass l i own (3 * last) ≡ true → word ≡ own_or_zeros last own φ v → in_range last φ v ≡ true → hashed_answers l i φ v word ≡ true
+own_passes l i own last φ v word all given ranged =
+    let begun = and_parts (leb 1 φ) (leb φ last && leb v 2) ranged in
+    let ended = and_parts (leb φ last) (leb v 2) begun.1 in
+    own_passes_at l i own last φ v word all (leb-true 1 φ begun.0) (leb-true φ last ended.0) (leb-true v 2 ended.1) given
+
+-- and where it does not, not all pass
+pub own_pass_fails : (l : ListView) (i : ℕ) (own : List ℕ) (last φ v : ℕ) (word : List ℕ) → 1 ≤ φ → φ ≤ last → v ≤ 2 → word ≡ own_or_zeros last own φ v → hashed_answers l i φ v word ≡ false → own_pass l i own (3 * last) ≡ false
+own_pass_fails l i own last φ v word begun ended valued given failed =
+    elim (cases_Bool (own_pass l i own (3 * last))) [
+      | inl all ↦ absurd (true≢false (sym (own_passes_at l i own last φ v word all begun ended valued given) ∙ failed))
+      | inr e ↦ e
+    ]
 
 -- and there is none for others
 pub own_zeros : (last : ℕ) (own : List ℕ) (φ v : ℕ) (word : List ℕ) → word ≡ own_or_zeros last own φ v → in_range last φ v ≡ false → word ≡ zero_word

@@ -1,20 +1,18 @@
 -- The two lists of words, and which words they pass. Assumes nothing.
-use Rattle.std.specs.Prelude.{ℕ, ◌+◌, ◌-◌, ◌*◌, Bool, true, false, cond, ◌&&◌, List, [], ◌∷◌, length, Some, None, Ok, Option, Result, ◌==◌, nat_le, nat_lt}
+use Rattle.std.specs.Prelude.{ℕ, ◌+◌, ◌-◌, ◌*◌, Bool, cond, ◌&&◌, List, [], length, Some, None, Ok, Option, Result, ◌==◌, nat_le, nat_lt}
 use Rattle.std.specs.List.{between}
+use Rattle.std.specs.Str.{bytes_eq}
 use Rattle.settings.specs.Refusals.{needs}
 use Rattle.settings.specs.declared.settings.Settings.{Settings}
 use Rattle.words.specs.Computation.{sha_256}
 use Rattle.words.specs.Words.{zero_word}
-use Rattle.words.specs.declared.list.HashedList.{HashedList}
-use Rattle.words.specs.declared.list.PlainList.{PlainList}
+use Rattle.words.specs.declared.form.Hashed.{Hashed}
+use Rattle.words.specs.declared.form.Plain.{Plain}
 use Rattle.words.specs.declared.list.WordList.{WordList}
 
 -- two lists of bytes are the same
 abbrev pub same_bytes : List ℕ → List ℕ → Bool
-same_bytes [] [] = true
-same_bytes [] (y ∷ ys) = false
-same_bytes (x ∷ xs) [] = false
-same_bytes (x ∷ xs) (y ∷ ys) = x == y && same_bytes xs ys
+same_bytes = bytes_eq
 
 -- a list of entries of 32 bytes, for so many cabins and phases
 pub record ListView : Type 0 where
@@ -22,7 +20,7 @@ pub record ListView : Type 0 where
   pub phases : ℕ
   pub entries : List ℕ
 
-abbrev pub list_view : WordList → ListView
+abbrev pub list_view : {F : Type 0} → WordList F → ListView
 list_view l = record { cabins = l.cabins; phases = l.phases; entries = l.entries.now }
 
 -- a list of no phase, which has no entry
@@ -63,16 +61,20 @@ entry_or_zeros l i φ v = cond (has_entry l i φ v) (entry_bytes l i φ v) zero_
 unfoldable pub holds_entry : ListView → ℕ → ℕ → ℕ → List ℕ → Bool
 holds_entry l i φ v bytes = has_entry l i φ v && same_bytes bytes (entry_bytes l i φ v)
 
+-- a word of 32 bytes passes if the list holds the entry for it
+abbrev pub list_answers : (List ℕ → List ℕ) → ListView → ℕ → ℕ → ℕ → List ℕ → Bool
+list_answers entry_for l i φ v word = length word == 32 && holds_entry l i φ v (entry_for word)
+
 -- the plain list passes a word of 32 bytes that is its entry
 abbrev pub plain_answers : ListView → ℕ → ℕ → ℕ → List ℕ → Bool
-plain_answers l i φ v word = length word == 32 && holds_entry l i φ v word
+plain_answers = list_answers (λ word. word)
 
 -- the hashed list passes a word of 32 bytes whose SHA-256 is its entry
 abbrev pub hashed_answers : ListView → ℕ → ℕ → ℕ → List ℕ → Bool
-hashed_answers l i φ v word = length word == 32 && holds_entry l i φ v (sha_256 word)
+hashed_answers = list_answers sha_256
 
-abbrev pub plain_view : PlainList → ListView
-plain_view l = list_view l.list
+abbrev pub plain_view : WordList Plain → ListView
+plain_view = list_view
 
-abbrev pub hashed_view : HashedList → ListView
-hashed_view l = list_view l.list
+abbrev pub hashed_view : WordList Hashed → ListView
+hashed_view = list_view

@@ -1,8 +1,10 @@
 // Words: SHA-256, the checks that a word passes or not, and the sealers that give words.
 #![tactic(auto)]
 
+mod cabin_entries;
 mod check;
 mod compare;
+mod form;
 mod hashed;
 mod hashing;
 mod list;

@@ -1,6 +1,6 @@
 // Lists and sealers on examples, for four cabins and three phases: 36 entries of 32 bytes.
 use super::*;
-use settings::{Refusal, Settings};
+use settings::{Refusal, Settings, Slot};
 use std::alloc::{AllocError, Global};
 use std::test::Fail;
 
@@ -9,6 +9,14 @@ const DIGEST: [u8; 32] = [
     0x66, 0x68, 0x7a, 0xad, 0xf8, 0x62, 0xbd, 0x77, 0x6c, 0x8f, 0xc1, 0x8b, 0x8e, 0x9f, 0x8e, 0x20,
     0x08, 0x97, 0x14, 0x85, 0x6e, 0xe2, 0x33, 0xb3, 0x90, 0x2a, 0x59, 0x1d, 0x0d, 0x5f, 0x29, 0x25,
 ];
+
+fn slot(cabin: u8, phase: u16, value: u8) -> Slot {
+    Slot {
+        cabin,
+        phase,
+        value,
+    }
+}
 
 // A list in which every byte of the k-th entry is k.
 fn numbered(heap: Global) -> Result<Vec<u8>, AllocError> {
@@ -46,12 +54,29 @@ fn plain_list(rt: HostRuntime) -> Result<(), Fail> {
         (0, 4, 0, 0, false),
         (2, 3, 3, 33, false),
     ] {
-        assert_eq!(rt; list.passes(cabin, phase, value, &[byte; 32]), passes);
+        assert_eq!(rt; list.passes(slot(cabin, phase, value), &[byte; 32]), passes);
     }
-    assert!(rt; !list.passes(2, 3, 1, &[31; 31]));
-    assert!(rt; !list.passes(2, 3, 1, &[31; 33]));
+    assert!(rt; !list.passes(slot(2, 3, 1), &[31; 31]));
+    assert!(rt; !list.passes(slot(2, 3, 1), &[31; 33]));
     let short = PlainList::new(&Settings::new(4, 1, 6)?, entries.as_slice());
     assert_eq!(rt; short.err(), Some(Refusal::WordsSize));
+    Ok(())
+}
+
+// Whether the word of 32 such bytes passes for cabin 2 in phase 3 with value 1.
+fn passes<W: WordCheck>(check: &W, byte: u8) -> bool {
+    check.passes(slot(2, 3, 1), &[byte; 32])
+}
+
+#[test]
+fn both_forms(rt: HostRuntime) -> Result<(), Fail> {
+    let settings = Settings::new(4, 1, 3)?;
+    let numbers = numbered(rt.alloc())?;
+    let plain = PlainList::new(&settings, numbers.as_slice())?;
+    assert!(rt; passes(&plain, 31) && !passes(&plain, 0));
+    let hashes = digests(rt.alloc())?;
+    let hashed = HashedList::new(&settings, hashes.as_slice())?;
+    assert!(rt; passes(&hashed, 0) && !passes(&hashed, 31));
     Ok(())
 }
 
@@ -60,7 +85,7 @@ fn empty_sealer(rt: HostRuntime) {
     let sealer = PlainSealer::empty();
     assert_eq!(rt; sealer.cabin(), 0);
     assert_eq!(rt; sealer.last_phase(), 0);
-    assert!(rt; !sealer.passes(0, 1, 0, &[0; 32]));
+    assert!(rt; !sealer.passes(slot(0, 1, 0), &[0; 32]));
     assert_eq!(rt; sealer.seal(1, 0), [0; 32]);
 }
 
@@ -84,7 +109,7 @@ fn plain_sealer(rt: HostRuntime) -> Result<(), Fail> {
     assert_eq!(rt; sealer.cabin(), 3);
     assert_eq!(rt; sealer.last_phase(), 3);
     assert_eq!(rt; sealer.seal(2, 2), [23; 32]);
-    assert!(rt; sealer.passes(3, 2, 2, &sealer.seal(2, 2)));
+    assert!(rt; sealer.passes(slot(3, 2, 2), &sealer.seal(2, 2)));
     assert_eq!(rt; sealer.seal(4, 0), [0; 32]);
     assert_eq!(rt; sealer.seal(1, 3), [0; 32]);
     Ok(())
@@ -118,9 +143,9 @@ fn hashed_sealer(rt: HostRuntime) -> Result<(), Fail> {
     assert_eq!(rt; sealer.last_phase(), 0);
     sealer.make(&settings, 1, entries.as_slice(), &[0; 288])?;
     assert_eq!(rt; sealer.cabin(), 1);
-    assert!(rt; sealer.passes(1, 3, 2, &sealer.seal(3, 2)));
-    assert!(rt; sealer.passes(2, 3, 2, &[0; 32]));
-    assert!(rt; !sealer.passes(1, 3, 2, &[1; 32]));
-    assert!(rt; !sealer.passes(1, 4, 0, &[0; 32]));
+    assert!(rt; sealer.passes(slot(1, 3, 2), &sealer.seal(3, 2)));
+    assert!(rt; sealer.passes(slot(2, 3, 2), &[0; 32]));
+    assert!(rt; !sealer.passes(slot(1, 3, 2), &[1; 32]));
+    assert!(rt; !sealer.passes(slot(1, 4, 0), &[0; 32]));
     Ok(())
 }

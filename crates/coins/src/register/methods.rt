@@ -28,7 +28,7 @@ impl RegisterCoin {
 impl Coin for RegisterCoin {
     ghost bits = { register_coin_bits };
 
-    #[tactic(auto, using(crate::proofs::RegisterLists::tossing))]
+    #[tactic(auto, using(crate::proofs::RegisterLists::register_bits_step), unfolding(crate::specs::Register::register_bits))]
     fn toss(&mut self) -> u8 {
         if self.left == 0 {
             return 0;
@@ -39,7 +39,7 @@ impl Coin for RegisterCoin {
         answer
     }
 
-    #[tactic(auto, using(crate::proofs::RegisterLists::counting))]
+    #[tactic(auto, using(crate::proofs::RegisterLists::register_bits_length, crate::proofs::RegisterLists::register_bits_each))]
     fn left(&self) -> usize {
         usize::from(self.left)
     }

@@ -1,13 +1,13 @@
 // Announcing such a packet, and reading it.
 ghost use Rattle.std.specs.Prelude.{◌≡◌, IfOk};
-ghost use Rattle.cabin_next.specs.Views.{cabin_state};
+ghost use Rattle.cabin.specs.Views.{cabin_state};
 ghost use Rattle.moves.specs.Announcing.{announce_state};
 ghost use Rattle.settings.specs.Refusals.{told};
 ghost use Rattle.rehearsal_next.specs.Seats.{Writes, announce_reply, packet_bytes};
 
 use crate::packet::Packet;
 use crate::wordlist::Words;
-use cabin_next::Cabin;
+use cabin::Cabin;
 use packets::LONGEST_PACKET;
 use settings::Refusal;
 use table::Place;

@@ -3,6 +3,7 @@ ghost use Rattle.std.specs.Prelude.{◌≡◌, ◌<◌, [], ◌∷◌, ◌++◌,
 ghost use Rattle.support.specs.Support.{most_support};
 ghost use Rattle.support.specs.View.{support_places, place_at};
 
+use super::MOST_SUPPORT;
 use crate::Support;
 
 impl Support {
@@ -11,13 +12,12 @@ impl Support {
         ensures { support_places result ≡ [] }
     {
         Support {
-            places: [0; 35],
+            places: [0; MOST_SUPPORT],
             count: 0,
         }
     }
 
     // Adds a place at the end.
-    #[tactic(auto, using(crate::proofs::Listing::pushed))]
     pub(crate) fn push(&mut self, place: u16)
         requires { length (support_places self.old) < most_support }
         ensures { support_places self.new ≡ support_places self.old ++ place ∷ [] }
@@ -33,15 +33,17 @@ impl Support {
         usize::from(self.count)
     }
 
+    // The places, in the order in which they were added.
+    pub fn places(&self) -> &[u16]
+        ensures { result.now ≡ support_places self.now }
+    {
+        &self.places[..self.len()]
+    }
+
     // The place with this index, if there are so many.
-    #[tactic(auto, using(crate::proofs::Listing::placed))]
     pub fn place(&self, index: usize) -> Option<u16>
         ensures { result ≡ place_at (support_places self.now) index }
     {
-        if index < self.len() {
-            Some(self.places[index])
-        } else {
-            None
-        }
+        self.places().get(index).copied()
     }
 }

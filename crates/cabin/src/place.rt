@@ -1,9 +1,0 @@
-// A place of the table.
-use settings::Status;
-
-// One place of a cabin's table: empty, or filled by a record that was kept, with its status and its word.
-#[derive(Clone, Copy, PartialEq, Eq, Debug)]
-pub enum Place {
-    Empty,
-    Filled { status: Status, word: [u8; 32] },
-}

@@ -1,0 +1,51 @@
+// Making a byte coin, and its bits.
+ghost use Rattle.std.specs.Prelude.{◌≡◌, ◌*◌, ◌<◌, length};
+ghost use Rattle.settings.specs.Refusals.{told};
+ghost use Rattle.coins.specs.Bytes.{bit_behind, byte_coin_answer, byte_coin_bits};
+
+use crate::bits::bit;
+use crate::{ByteCoin, Coin};
+use settings::Refusal;
+
+const MOST_BYTES: usize = 4096;
+
+impl<'a> ByteCoin<'a> {
+    // A coin of all bits of at most 4,096 bytes.
+    #[tactic(auto, using(crate::proofs::ByteLists::last_bits_all))]
+    pub fn new(bytes: &'a [u8]) -> Result<ByteCoin<'a>, Refusal>
+        ensures { told byte_coin_bits result ≡ byte_coin_answer bytes.now }
+    {
+        if bytes.len() > MOST_BYTES {
+            return Err(Refusal::CoinSource);
+        }
+        let left = 8 * bytes.len();
+        Ok(ByteCoin { bytes, left })
+    }
+}
+
+// The bit with so many bits behind it.
+fn bit_behind(bytes: &[u8], count: usize) -> u8
+    requires { count < 8 * length bytes.now }
+    ensures { result ≡ bit_behind bytes.now count }
+{
+    let byte = bytes[bytes.len() - 1 - count / 8];
+    bit(u16::from(byte), count % 8)
+}
+
+impl Coin for ByteCoin<'_> {
+    ghost bits = { byte_coin_bits };
+
+    #[tactic(auto, using(crate::proofs::ByteLists::last_bits_step), unfolding(crate::specs::Bytes::last_bits))]
+    fn toss(&mut self) -> u8 {
+        if self.left == 0 {
+            return 0;
+        }
+        self.left -= 1;
+        bit_behind(self.bytes, self.left)
+    }
+
+    #[tactic(auto, using(crate::proofs::ByteLists::last_bits_length, crate::proofs::ByteLists::last_bits_each))]
+    fn left(&self) -> usize {
+        self.left
+    }
+}
