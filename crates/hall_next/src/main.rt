@@ -5,10 +5,6 @@ use rehearsal_next::transcript;
 use std::io::Read;
 
 fn main(rt: HostRuntime) -> anyhow::Result<()> {
-    play(&rt)
-}
-
-fn play(rt: &HostRuntime) -> anyhow::Result<()> {
     let heap = rt.alloc();
     let mut input = Vec::new(heap);
     rt.stdin().read_to_end(&mut input)?;
