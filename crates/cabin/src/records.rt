@@ -29,6 +29,7 @@ pub(crate) fn hear_records<W: WordCheck>(
     ensures table { table.new ≡ (heard (W.WordCheck.answers check.now) state.now table.old packet.now).table }
 {
     let mut tally = Tally::default();
+    // places, since the reader and the fault go by the place
     for place in 0..count {
         let answer = hear_record(check, state, table, packet, place);
         tally.count(place, answer);

@@ -14,7 +14,8 @@ use settings::Status;
 use support::Support;
 use words::Sealer;
 
-// Writes the packet of a cabin that may announce, and answers its length.
+// Writes the packet of a cabin that may announce, and answers its length. State and table go side by side, as in the calls: a table is
+// lent for the call, and only the support needs it with the settings.
 pub(crate) fn write_packet<S: Sealer>(
     state: State,
     table: &[Place],

@@ -8,7 +8,7 @@ ghost use Rattle.examples.specs.Witness.{Witness};
 // The examples of `Examples`.
 const SHOWN: usize = 22;
 
-// The courses of a two-way hall.
+// The courses of a two-way hall: a number of its own, so that a wrong one is refused by the runs that are shown here.
 const COURSES: u8 = 2;
 
 // How many examples of the rules are shown.

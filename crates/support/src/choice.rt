@@ -13,7 +13,7 @@ use settings::{CYCLE, NO_PREFERENCE, PhaseKind, Status};
 use table::Table;
 
 // The support of a record for a phase with a value and a status. The phase rule comes last: what the others chose counts for
-// it.
+// it. The three stay apart: each rule looks at other ones of them, and `Fields` would ask for a cabin and a branch point too.
 pub fn choose(table: Table, phase: u16, value: u8, status: Status) -> Support
     ensures { Supports table.entry.settings table.entry.places.now phase value status (support_places result) }
 {

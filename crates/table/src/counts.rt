@@ -43,7 +43,7 @@ impl Table<'_> {
     }
 }
 
-// Of how many cabins of the hall a test holds.
+// Of how many cabins of the hall a test holds. That a loop counts them is a rule of the project.
 fn cabins<F: Fn(u8) -> bool>(settings: Settings, holds: F) -> u8
     requires { F.IsAlwaysCallable holds }
     ensures { (A : ℕ → Bool) → ((j : ℕ) (b : Bool) → F.post holds j b → b ≡ A j) → result ≡ count A settings.cabins }

@@ -61,7 +61,7 @@ impl Table<'_> {
         self.count(phase, value) >= self.settings.quorum()
     }
 
-    // c(φ, v) ≥ h
+    // c(φ, v) ≥ h. Not one function with `has_quorum`: the number to compare with would then stand in every call.
     fn has_weak_quorum(&self, phase: u16, value: u8) -> bool
         ensures { result ≡ has_weak_quorum self.now.settings.cabins self.now.settings.faults (records self.now) phase value }
     {

@@ -98,6 +98,7 @@ impl Chosen {
     fn missing_value(&self, table: Table, cabin: u8, phase: u16, values: &[u8]) -> Option<u8>
         ensures { result ≡ missing_value (records table.entry) (records_of table.entry.settings self.now.places) phase cabin values.now }
     {
+        // a match, since no method of `Option` turns what is there into none
         match first_value(self.as_table(table.settings), cabin, phase, values) {
             Some(_) => None,
             None => first_value(table, cabin, phase, values),

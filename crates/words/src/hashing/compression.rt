@@ -32,6 +32,7 @@ fn read_words(block: &[u8; 64], w: &mut [u32; 64])
 fn extend(w: &mut [u32; 64])
     ensures { w.new ≡ schedule (take 16 w.old) 64 }
 {
+    // an index, since each word is made of earlier ones in the same array
     for t in 16..64 {
         w[t] = next_word(w, t);
     }
@@ -76,7 +77,8 @@ fn rounds(hash: [u32; 8], w: &[u32; 64]) -> [u32; 8]
     v
 }
 
-// Eight rounds from a round on: the compiler unrolls the loop over eight, which is faster than one loop over all the rounds.
+// Eight rounds from a round on: the compiler unrolls the loop over eight, which is faster than one loop over all the rounds. A round
+// goes by its number, as in the standard, since it takes a constant and a word of that number.
 #[tactic(auto, using(crate::proofs::Rounds::rounds_more))]
 fn eight_rounds(start: [u32; 8], w: &[u32; 64], from: usize) -> [u32; 8]
     requires { from + 8 ≤ 64 }
