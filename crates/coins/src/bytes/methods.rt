@@ -1,7 +1,7 @@
 // Making a byte coin, and its bits.
-ghost use Rattle.std.specs.Prelude.{◌≡◌, ◌*◌, ◌<◌, length};
+ghost use Rattle.std.specs.Prelude.{◌≡◌};
 ghost use Rattle.settings.specs.Refusals.{told};
-ghost use Rattle.coins.specs.Bytes.{bit_behind, byte_coin_answer, byte_coin_bits};
+ghost use Rattle.coins.specs.Bytes.{byte_coin_answer, byte_coin_bits};
 
 use crate::bits::bit;
 use crate::{ByteCoin, Coin};
@@ -23,15 +23,6 @@ impl<'a> ByteCoin<'a> {
     }
 }
 
-// The bit with so many bits behind it.
-fn bit_behind(bytes: &[u8], count: usize) -> u8
-    requires { count < 8 * length bytes.now }
-    ensures { result ≡ bit_behind bytes.now count }
-{
-    let byte = bytes[bytes.len() - 1 - count / 8];
-    bit(u16::from(byte), count % 8)
-}
-
 impl Coin for ByteCoin<'_> {
     ghost bits = { byte_coin_bits };
 
@@ -40,8 +31,10 @@ impl Coin for ByteCoin<'_> {
         if self.left == 0 {
             return 0;
         }
-        self.left -= 1;
-        bit_behind(self.bytes, self.left)
+        let left = self.left - 1;
+        let byte = self.bytes[self.bytes.len() - 1 - left / 8];
+        self.left = left;
+        bit(u16::from(byte), left % 8)
     }
 
     #[tactic(auto, using(crate::proofs::ByteLists::last_bits_length, crate::proofs::ByteLists::last_bits_each))]
