@@ -1,6 +1,6 @@
 // Making the list, and what checks and sealers see of it.
 ghost use Rattle.std.specs.Prelude.{◌≡◌, ◌+◌, ◌/◌, ◌%◌};
-ghost use Rattle.words.specs.Checks.{plain_view};
+ghost use Rattle.words.specs.Checks.{list_view};
 ghost use Rattle.words.specs.Sealers.{plain_sealer_view};
 ghost use Rattle.rehearsal_next.specs.Words.{claimed, sealer_of, word_list, word_of, word_or_zeros};
 
@@ -29,7 +29,7 @@ impl Words {
 
     // The list as a word check.
     pub(crate) fn check<'a>(&'a self) -> PlainList<'a>
-        ensures { plain_view result ≡ word_list }
+        ensures { list_view result ≡ word_list }
     {
         match PlainList::new(&script::settings(), self.entries.as_slice()) {
             Ok(list) => list,
