@@ -4,6 +4,7 @@
 use rehearsal::transcript;
 use std::io::Read;
 
+// A function that takes the transcript as a closure would have to ask of its callers that it may be called.
 fn main(rt: HostRuntime) -> anyhow::Result<()> {
     let heap = rt.alloc();
     let mut input = Vec::new(heap);

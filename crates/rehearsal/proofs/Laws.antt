@@ -1,5 +1,5 @@
 -- What every step keeps: a refused one changes nothing, and none changes another seat.
-use Rattle.std.proofs.Common.{◌≡◌, ℕ, List, Option, sym, refl, inl, inr}
+use Rattle.std.proofs.Common.{◌≡◌, ℕ, List, Option, refl, inl, inr}
 use Rattle.std.proofs.lemmas.Bool.{cases_Bool}
 use Rattle.script.specs.Answers.{Reply}
 use Rattle.script.specs.Stage.{Keeps}

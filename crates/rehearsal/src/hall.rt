@@ -10,7 +10,7 @@ ghost use Rattle.rehearsal.specs.Steps.{step_of};
 
 use crate::seat::Seat;
 use crate::{Line, Step};
-use moves::State;
+use cabin::State;
 use settings::Refusal;
 use std::alloc::{AllocError, Global};
 

@@ -7,6 +7,7 @@ use script::STEP;
 use std::alloc::{AllocError, Global};
 
 // Plays the steps of an input on a new hall: a line of text for each step, in order.
+// The loop stays with its hall: one over any hall needs a trait, a relation of what it plays and an induction for each hall.
 pub fn transcript(heap: Global, input: &[u8]) -> Result<String, AllocError>
     ensures { IfOk result (λ text. string_bytes text ≡ transcript_of input.now) }
 {

@@ -3,11 +3,9 @@ ghost use Rattle.std.specs.Prelude.{◌≡◌, IfOk};
 ghost use Rattle.script.specs.Answers.{done_reply};
 ghost use Rattle.rehearsal.specs.Seats.{closed_seat, seat_opens, seat_view};
 
-use cabin::Cabin;
-use moves::State;
+use cabin::{Cabin, Place, State};
 use settings::Refusal;
 use std::alloc::{AllocError, Global};
-use table::Place;
 
 // A seat holds a cabin once it is open, and its table.
 #[derive(Drop)]
@@ -21,7 +19,7 @@ impl Seat {
     pub(crate) fn new(heap: Global) -> Result<Seat, AllocError>
         ensures { IfOk result (λ s. seat_view s ≡ closed_seat) }
     {
-        let table = vec![in heap; Place::Empty; table::places(&script::settings())]?;
+        let table = vec![in heap; Place::Empty; cabin::places(&script::settings())]?;
         Ok(Seat { cabin: None, table })
     }
 

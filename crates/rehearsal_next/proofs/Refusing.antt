@@ -2,7 +2,6 @@
 use Rattle.std.proofs.Common.{◌≡◌, ℕ, List, Some, None, Ok, Err, Option, Result, refl, arith}
 use Rattle.moves.specs.Hearing.{Told, hear_answer}
 use Rattle.moves.specs.declared.state.State.{State}
-use Rattle.script.specs.Stage.{Turn}
 use Rattle.script.proofs.Laws.{Refusing, opens_same}
 use Rattle.rehearsal_next.specs.Seats.{SeatView, announce_reply, announces_as, hears_as, if_open, seat_hears_latest}
 use Rattle.rehearsal_next.specs.Stage.{seat_at, turn}

@@ -1,5 +1,5 @@
 -- The four seats of a rehearsal, and what a step does to them. Assumes nothing.
-use Rattle.std.specs.Prelude.{◌≡◌, ℕ, List, [], map, length, Some, None, vec_items, Option, nat_lt, slice_index_or, slice_set}
+use Rattle.std.specs.Prelude.{ℕ, List, [], map, length, Some, None, vec_items, Option, nat_lt, slice_index_or, slice_set}
 use Rattle.std.specs.List.{range_with_len}
 use Rattle.settings.specs.Refusals.{needs}
 use Rattle.script.specs.Answers.{Reply}

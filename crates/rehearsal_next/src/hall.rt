@@ -14,7 +14,7 @@ use crate::packet::Packet;
 use crate::seat::Seat;
 use crate::wordlist::Words;
 use crate::{Answer, Claim, Line, Step};
-use moves::State;
+use cabin::State;
 use settings::Refusal;
 use std::alloc::{AllocError, Global};
 

@@ -9,12 +9,10 @@ use crate::Answer;
 use crate::coin::coin;
 use crate::packet::Packet;
 use crate::wordlist::Words;
-use cabin::Cabin;
+use cabin::{Cabin, Place, State};
 use coins::RegisterCoin;
-use moves::State;
 use settings::Refusal;
 use std::alloc::{AllocError, Global};
-use table::Place;
 
 // A seat holds a cabin once it is open.
 #[derive(Drop)]
@@ -30,7 +28,7 @@ impl Seat {
     pub(crate) fn new(heap: Global, number: u8) -> Result<Seat, AllocError>
         ensures { IfOk result (λ s. seat_view s ≡ first_seat number) }
     {
-        let table = vec![in heap; Place::Empty; table::places(&script::settings())]?;
+        let table = vec![in heap; Place::Empty; cabin::places(&script::settings())]?;
         Ok(Seat {
             cabin: None,
             table,

@@ -7,10 +7,9 @@ ghost use Rattle.rehearsal_next.specs.Seats.{Writes, announce_reply, packet_byte
 
 use crate::packet::Packet;
 use crate::wordlist::Words;
-use cabin::Cabin;
+use cabin::{Cabin, Place};
 use packets::LONGEST_PACKET;
 use settings::Refusal;
-use table::Place;
 
 impl Packet {
     // The packet that a cabin announces.

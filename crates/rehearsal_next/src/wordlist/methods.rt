@@ -1,6 +1,6 @@
 // Making the list, and what checks and sealers see of it.
 ghost use Rattle.std.specs.Prelude.{◌≡◌, ◌+◌, ◌/◌, ◌%◌};
-ghost use Rattle.words.specs.Checks.{plain_view};
+ghost use Rattle.words.specs.Checks.{list_view};
 ghost use Rattle.words.specs.Sealers.{plain_sealer_view};
 ghost use Rattle.rehearsal_next.specs.Words.{claimed, sealer_of, word_list, word_of, word_or_zeros};
 
@@ -19,6 +19,7 @@ const VALUES: u8 = 3;
 const ROW: u8 = 12;
 
 impl Words {
+    #[tactic(auto, using(crate::proofs::Words::words_none, crate::proofs::Words::words_more))]
     pub(crate) fn new(heap: Global) -> Result<Words, AllocError> {
         let mut entries = Vec::new(heap);
         for place in 0..PLACES {
@@ -28,13 +29,11 @@ impl Words {
     }
 
     // The list as a word check.
+    #[tactic(auto, using(crate::proofs::Words::list_is))]
     pub(crate) fn check<'a>(&'a self) -> PlainList<'a>
-        ensures { plain_view result ≡ word_list }
+        ensures { list_view result ≡ word_list }
     {
-        match PlainList::new(&script::settings(), self.entries.as_slice()) {
-            Ok(list) => list,
-            Err(_) => unreachable(),
-        }
+        PlainList::new(&script::settings(), self.entries.as_slice()).unwrap()
     }
 
     // The sealer of a cabin; for a number that no cabin has it is the empty one.
