@@ -9,7 +9,7 @@ ghost use Rattle.agreement.specs.Example.{CanDecide};
 
 use settings::CYCLE;
 
-// The courses of a two-way hall.
+// The courses of a two-way hall: a number of its own, so that a wrong one is refused by the statements here.
 const COURSES: u8 = 2;
 
 // Whether two decisions can be those of two honest cabins of one hall. Where both are there and differ they cannot: the

@@ -19,10 +19,6 @@ use Rattle.cabin.specs.Records.{counted_with, found_of, records_counted, table_a
 use Rattle.cabin.specs.Views.{hearing_of, tally_view}
 use Rattle.cabin.specs.declared.tally.Tally.{Tally}
 
--- a record that was read has a place in the table
-pub read_in_table : (s : Settings) (b k : ℕ) (p : List ℕ) (r : Shown) → read_answer s b p k ≡ Ok r → in_table s r.fields.phase r.fields.cabin r.fields.value ≡ true
-read_in_table s b k p r e = in_place s r.fields (lawful_parts s r.fields (read_lawful s b p k r e))
-
 -- so many records were heard: the hearing is the definition's, and each record counts once
 pub record HeardSoFar (check : Check) (c : State) (t : List Place) (p : List ℕ) (k : ℕ) (tally : Tally) (now : List Place) : Type 0 where
   pub hearing : hearing_of tally now ≡ heard_to check c t p k

@@ -15,7 +15,7 @@ use settings::{Refusal, Settings};
 use table::Place;
 use words::WordCheck;
 
-// Hears the records of a packet in their order.
+// Hears the records of a packet in their order. Their number comes with the packet: asked for here, it would be an error that cannot come.
 pub(crate) fn hear_records<W: WordCheck>(
     check: &W,
     state: &State,
@@ -66,7 +66,7 @@ fn keep(table: &mut [Place], settings: &Settings, fields: Fields, word: &[u8])
 {
     let place = table::place_of(settings, fields.slot()).unwrap();
     let word = <[u8; 32]>::try_from(word).unwrap();
-    // the contract of `get_mut` does not tell a write through it
+    // the contract of a slice's `get_mut` does not tell a write through it
     if place < table.len() {
         table[place] = Place::Filled {
             status: fields.status,

@@ -42,6 +42,7 @@ impl Tally {
             Ok((Finding::Known, _)) => self.known += 1,
             Err(refusal) => {
                 self.turned += 1;
+                // no `or`: with it the promise of this case is not found
                 if self.fault.is_none() {
                     self.fault = Some(Fault::new(refusal, place));
                 }

@@ -58,6 +58,7 @@ fn write_copy(state: &State, table: &[Place], place: u16, index: usize, buffer: 
     ensures { Wrote (copied state.now table.now place) index buffer.old buffer.new }
 {
     let (status, word) = contents(held(table, usize::from(place)));
+    // the way back from a place; cabin and value are below 256, so nothing is lost
     let row = 3 * u16::from(state.settings.cabins());
     let fields = Fields {
         cabin: (place % row / 3) as u8,

@@ -42,7 +42,7 @@ impl Fault {
     }
 }
 
-// The layer of a record's refusal. The last three refusals are of no record.
+// The layer of a record's refusal. Those below 10 and above 16 are of no record; they have the layers that the definition gives.
 impl From<Refusal> for Layer {
     ghost from_gives = { λ refusal layer. layer ≡ layer_of (refusal_number refusal) };
 

@@ -13,15 +13,16 @@ use settings::{NO_PREFERENCE, PhaseKind, Status};
 use table::Place;
 
 impl State {
-    // Moves once, by the records of a table and the record to catch up with, if there is one.
+    // Moves once, by the records of a table and the record to catch up with, if there is one. The places are handed on, and not a `Table`:
+    // the settings in it are those of the state, which a contract would have to say.
     #[tactic(auto, using(crate::proofs::Moves::catch_up_settings))]
-    pub fn advance<C: Coin>(&mut self, table: &[Place], ahead: Option<Fields>, coin: &mut C)
-        ensures state { self.new ≡ (moved (records_of self.old.settings table.now) ahead (with_bits self.old (C.Coin.bits coin.old))).state }
-        ensures bits { C.Coin.bits coin.new ≡ (moved (records_of self.old.settings table.now) ahead (with_bits self.old (C.Coin.bits coin.old))).bits }
+    pub fn advance<C: Coin>(&mut self, places: &[Place], ahead: Option<Fields>, coin: &mut C)
+        ensures state { self.new ≡ (moved (records_of self.old.settings places.now) ahead (with_bits self.old (C.Coin.bits coin.old))).state }
+        ensures bits { C.Coin.bits coin.new ≡ (moved (records_of self.old.settings places.now) ahead (with_bits self.old (C.Coin.bits coin.old))).bits }
     {
         let before = self.phase;
-        self.catch_up(table, ahead, coin);
-        self.leave(table, coin);
+        self.catch_up(places, ahead, coin);
+        self.leave(places, coin);
         self.settle(before);
     }
 
@@ -113,7 +114,7 @@ impl State {
         (0..NO_PREFERENCE).find(|course| table.has_quorum(self.phase, *course))
     }
 
-    // The lowest course that a cabin named in the phase, if one did.
+    // The lowest course that a cabin named in the phase, if one did. Like the other, one `find` over the courses.
     fn course_said(&self, places: &[Place]) -> Option<u8>
         ensures { result ≡ course_where (λ v. nat_le 1 (count_for self.now.settings (records_of self.now.settings places.now) self.now.phase v)) }
     {

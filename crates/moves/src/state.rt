@@ -14,7 +14,7 @@ pub struct State {
     pub branch: u16,
     // from 1; after the last phase it is one more than that
     pub phase: u16,
-    // 0 or 1, a course; 2 is no preference
+    // 0 or 1, a course; 2 is no preference: a number, as records have it, of which a reader tells any byte
     pub value: u8,
     pub status: Status,
     // the course that was decided; once there it stays

@@ -9,7 +9,7 @@ use crate::{Fields, record};
 use settings::{Refusal, Settings};
 
 // A record of a packet: what its sender announces, at the end, or a record of support before that.
-// The word lies in the packet; it is not copied.
+// The word lies in the packet; it is not copied. That each case holds its own parts is a rule of the project.
 #[derive(Clone, Copy, PartialEq, Eq, Debug)]
 pub enum Reading<'a> {
     Support { fields: Fields, word: &'a [u8] },

@@ -7,7 +7,7 @@ ghost use Rattle.packets.specs.Records.{fields_answer, head_bytes, highest_value
 use crate::format::{BRANCH, CABIN, PHASE, STATUS, VALUE, ZERO};
 use settings::{NO_PREFERENCE, PhaseKind, Refusal, Settings, Slot, Status};
 
-// What a record says besides its word.
+// What a record says besides its word. The value is a number: a record is written with any byte, and a reader tells what it is worth.
 #[derive(Clone, Copy, PartialEq, Eq, Debug)]
 pub struct Fields {
     pub cabin: u8,

@@ -14,7 +14,7 @@ use cabin::State;
 use settings::Refusal;
 use std::alloc::{AllocError, Global};
 
-// A rehearsal's hall: a seat for each cabin, by its number.
+// A rehearsal's hall: a seat for each cabin, by its number. Stands beside that of `rehearsal_next`, since `hall` does what it did until that one takes its place.
 #[derive(Drop)]
 pub struct Hall {
     seats: Vec<Seat>,
@@ -54,6 +54,7 @@ impl Hall {
         ensures reply { done_reply result ≡ stage_reply step (stage_of self.old) }
         ensures after { stage_of self.new ≡ stage_after step (stage_of self.old) }
     {
+        // the cases of an enum: each asks another call with its own arguments
         match step.ok_or(Refusal::Step)? {
             Step::Open { cabin, choice } => self.open(cabin, choice),
         }

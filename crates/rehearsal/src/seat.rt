@@ -7,7 +7,7 @@ use cabin::{Cabin, Place, State};
 use settings::Refusal;
 use std::alloc::{AllocError, Global};
 
-// A seat holds a cabin once it is open, and its table.
+// A seat holds a cabin once it is open, and its table. Stands beside that of `rehearsal_next`, since `hall` does what it did until that one takes its place.
 #[derive(Drop)]
 pub(crate) struct Seat {
     cabin: Option<Cabin>,

@@ -2,7 +2,7 @@
 ghost use Rattle.std.specs.Prelude.{◌≡◌};
 ghost use Rattle.rehearsal.specs.Steps.{step_of};
 
-// A step that asks for something.
+// A step that asks for something. Stands beside that of `rehearsal_next`, since `hall` does what it did until that one takes its place.
 #[derive(Clone, Copy)]
 pub enum Step {
     // open a cabin with a choice

@@ -14,7 +14,7 @@ pub struct Claim {
 }
 
 impl Claim {
-    // The 40 bytes of the record with a word: branch point 0, and byte 3 is 0.
+    // The 40 bytes of the record with a word: branch point 0, and byte 3 is 0. Not written by `packets`, since its status is any byte.
     pub(crate) fn record(self, word: [u8; 32]) -> [u8; RECORD_SIZE]
         ensures { result ≡ claim_bytes self word }
     {

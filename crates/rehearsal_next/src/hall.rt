@@ -61,6 +61,7 @@ impl Hall {
         ensures turned { Turned cabin (turn step cabin (latest (stage_of self.new) cabin) (stage_of self.old)) (heard_reply result) (stage_of self.old) (stage_of self.new) }
         ensures lawful { MayWrite step cabin (stage_of self.old) (latest (stage_of self.new) cabin) }
     {
+        // the cases of an enum: each asks another call with its own arguments
         match step.ok_or(Refusal::Step)? {
             Step::Open { choice } => self.open(cabin, choice),
             Step::Announce => self.announce(cabin),

@@ -16,7 +16,7 @@ pub struct Line<A> {
     pub answer: A,
 }
 
-// A decision, or `-` where there is none.
+// A decision, or `-` where there is none. That the line writer matches it is a rule of the project.
 #[derive(Clone, Copy)]
 struct Decision(Option<u8>);
 
@@ -31,7 +31,7 @@ impl fmt::Display for Decision {
     }
 }
 
-// Phase, value, status and decision of a cabin, or `0 0 0 -` where it is not open.
+// Phase, value, status and decision of a cabin, or `0 0 0 -` where it is not open: two texts with nothing in common to map.
 #[derive(Clone, Copy)]
 struct Standing(Option<State>);
 

@@ -40,9 +40,6 @@ impl Place {
     pub fn is_filled(&self) -> bool
         ensures { result ≡ is_filled self.now }
     {
-        match self {
-            Place::Filled { .. } => true,
-            Place::Empty => false,
-        }
+        matches!(self, Place::Filled { .. })
     }
 }

@@ -24,8 +24,8 @@ fn digit(number: u8) -> char
     ensures ascii { result < 128 }
 {
     if number < 10 {
-        (b'0' + number) as char
+        char::from(b'0' + number)
     } else {
-        (b'a' - 10 + number) as char
+        char::from(b'a' - 10 + number)
     }
 }

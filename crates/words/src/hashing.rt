@@ -33,6 +33,7 @@ fn digest(value: [u32; 8]) -> [u8; 32]
     ensures { result ≡ digest value }
 {
     let mut bytes = [0; 32];
+    // not zipped with the chunks of `bytes`: a proof does not know what is written through them
     for (i, word) in value.iter().enumerate() {
         bytes[4 * i..4 * i + 4].copy_from_slice(&word.to_be_bytes());
     }

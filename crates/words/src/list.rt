@@ -12,7 +12,7 @@ use std::marker::PhantomData;
 // The length of a word, and of an entry of a list.
 pub(crate) const WORD: usize = 32;
 
-// How many values a cabin may have in a phase.
+// How many values a cabin may have in a phase; of this type, since sizes of a list are.
 pub(crate) const VALUES: usize = 3;
 
 // The lent entries of a list, for so many cabins and phases.
@@ -67,7 +67,8 @@ impl<'a, F: Form> WordList<'a, F> {
         self.phases
     }
 
-    // The entry for a slot, if the list has one.
+    // The entry for a slot, if the list has one. A table has the same order of places; the list tells its own cabins and phases, since
+    // the empty one belongs to no hall.
     fn entry(&self, slot: Slot) -> Option<&'a [u8]>
         ensures value { option_map (λ x. x.now) result ≡ entry_at (list_view self.now) slot.cabin slot.phase slot.value }
         ensures len { IfSome result (λ entry. length entry.now ≡ 32) }

@@ -9,7 +9,8 @@ use crate::{Cabin, Place, State};
 use settings::{Refusal, Settings, Status};
 
 impl Cabin {
-    // Opens cabin `number` at a branch point with a choice, and empties the table.
+    // Opens cabin `number` at a branch point with a choice, and empties the table. A choice is any byte, since one above 1 is refused
+    // with a number of its own.
     #[tactic(auto, using(runs::proofs::Calls::open_keeps, runs::proofs::Running::hall_agrees))]
     pub fn open(
         settings: Settings,

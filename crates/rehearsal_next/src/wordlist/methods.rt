@@ -13,7 +13,7 @@ use words::{PlainList, PlainSealer, Sealer};
 // How many words the list has: for each of twelve phases, four cabins and three values.
 const PLACES: u8 = 144;
 
-// The three values of each cabin, and the places of each phase.
+// The three values of each cabin, and the places of each phase: of one byte, as the places of this list are.
 const VALUES: u8 = 3;
 
 const ROW: u8 = 12;

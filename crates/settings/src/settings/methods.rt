@@ -61,7 +61,7 @@ impl Settings {
         (self.cabins + self.faults) / 2 + 1
     }
 
-    // h, the weak quorum: h cabins include an honest one
+    // h, the weak quorum: h cabins include an honest one. A call of its own, since q and h are two numbers of the protocol.
     pub fn weak_quorum(&self) -> u8
         ensures { result ≡ weak_quorum_of self.now.cabins self.now.faults }
     {

@@ -77,6 +77,7 @@ impl Chosen {
         let mut support = Support::none();
         for (place, held) in self.places.iter().enumerate() {
             if held.is_filled() {
+                // a place is below 1,152, so nothing is lost
                 support.push(place as u16);
             }
         }
@@ -98,7 +99,7 @@ impl Chosen {
     fn missing_value(&self, table: Table, cabin: u8, phase: u16, values: &[u8]) -> Option<u8>
         ensures { result ≡ missing_value (records table.entry) (records_of table.entry.settings self.now.places) phase cabin values.now }
     {
-        // a match, since no method of `Option` turns what is there into none
+        // a match: `map_or_else` with a closure that drops its value is no plainer
         match first_value(self.as_table(table.settings), cabin, phase, values) {
             Some(_) => None,
             None => first_value(table, cabin, phase, values),

@@ -64,6 +64,7 @@ fn own_words_pass(entries: &CabinEntries<'_, Hashed>, own: &[u8]) -> bool
     requires { length own.now ≡ 96 * entries.now.list.phases }
     ensures { result ≡ own_pass (list_view entries.now.list) entries.now.cabin own.now (3 * entries.now.list.phases) }
 {
+    // loops, since the proof goes over the words one by one, as the definition does
     let last = entries.list.phases();
     for phase in 1..=last {
         for value in 0..=2 {
@@ -93,6 +94,7 @@ fn own_word(own: &[u8], last: u16, phase: u16, value: u8) -> [u8; 32]
     word
 }
 
+// Asks its entries, a line for each method: a trait's methods cannot be taken over from a field.
 impl<'a> WordCheck for HashedSealer<'a> {
     ghost answers = { λ s. hashed_answers (list_view s.entries.list) };
 

@@ -22,6 +22,7 @@ pub(super) fn compress(hash: [u32; 8], block: &[u8; 64]) -> [u32; 8]
 fn read_words(block: &[u8; 64], w: &mut [u32; 64])
     ensures { take 16 w.new ≡ words block.now }
 {
+    // not zipped with `w.iter_mut()`: a proof does not know what is written through it
     for (t, bytes) in block.as_chunks::<4>().0.iter().enumerate() {
         w[t] = u32::from_be_bytes(*bytes);
     }
@@ -71,6 +72,7 @@ fn rounds(hash: [u32; 8], w: &[u32; 64]) -> [u32; 8]
 {
     let mut v = hash;
     for turn in 0..8 {
+        // by a name of its own: an array is not assigned from a call that takes it
         let next = eight_rounds(v, w, 8 * turn);
         v = next;
     }

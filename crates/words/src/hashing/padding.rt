@@ -13,6 +13,7 @@ pub(super) fn hash_rest(start: [u32; 8], message: &[u8]) -> [u32; 8]
     let mut value = start;
     let mut block = marked(rest);
     if rest.len() > 55 {
+        // by a name of its own: an array is not assigned from a call that takes it
         let next = compress(value, &block);
         value = next;
         block = [0; 64];
@@ -39,7 +40,7 @@ fn with_length(mut block: [u8; 64], bits: u64) -> [u8; 64]
     block
 }
 
-// The length in bits of a message of n bytes, modulo 2 ^ 64.
+// The length in bits of a message of n bytes, modulo 2 ^ 64. A `usize` has 64 bits, so `as` loses nothing.
 fn bit_length(n: usize) -> u64
     ensures { result ≡ n * 8 % 2 ^ 64 }
 {
