@@ -70,7 +70,8 @@ impl Hall {
         }
     }
 
-    // Opens a cabin with a choice; a number that no seat has is refused.
+    // Opens a cabin with a choice; a number that no seat has is refused. Each of these takes its seat itself: a method that lends a seat
+    // would lend the words too.
     fn open(&mut self, cabin: u8, choice: u8) -> Answer
         ensures { Turned cabin (seat_opens cabin choice (seat_at (stage_of self.old) cabin)) (heard_reply result) (stage_of self.old) (stage_of self.new) }
     {

@@ -60,7 +60,8 @@ impl Words {
     }
 }
 
-// The word at a place of the list: its cabin, its phase and its value, and then zeros.
+// The word at a place of the list: its cabin, its phase and its value, and then zeros. A cabin's way back from a place is over wider
+// numbers, and for any hall.
 fn word_at(place: u8) -> [u8; 32]
     ensures { result ≡ word_of (place % 12 / 3) (place / 12 + 1) (place % 3) }
 {
