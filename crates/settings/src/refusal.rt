@@ -1,5 +1,5 @@
 // The refusals of every call, by number.
-ghost use Rattle.std.specs.Prelude.{◌≡◌};
+ghost use Rattle.std.specs.Prelude.{◌≡◌, Decides};
 ghost use Rattle.settings.specs.Refusals.{refusal_number};
 
 // Why a call, a record or a step was refused. Each case is one number, and one number is one case.
@@ -43,6 +43,15 @@ pub enum Refusal {
     CoinSource = 18,
     // a step of a rehearsal that says nothing
     Step = 19,
+}
+
+impl Refusal {
+    // Whether this is that refusal. It is what `==` says, and the contract shows it of every two.
+    pub fn is(self, other: Refusal) -> bool
+        ensures { Decides result (self ≡ other) }
+    {
+        self == other
+    }
 }
 
 // The number of a refusal.

@@ -1,6 +1,4 @@
 // The bounds of settings, the quorums and the kinds of a phase on examples.
-ghost use Rattle.std.specs.Prelude.{◌≡◌, Decides};
-
 use super::*;
 use std::test::Fail;
 
@@ -68,15 +66,8 @@ fn statuses_by_number(rt: HostRuntime) {
     }
 }
 
-// `==` of refusals says exactly whether they are the same, as the contract here shows of every two.
-fn are_the_same(refusal: Refusal, other: Refusal) -> bool
-    ensures { Decides result (refusal ≡ other) }
-{
-    refusal == other
-}
-
 #[test]
 fn refusals_equal_only_themselves(rt: HostRuntime) {
-    assert!(rt; are_the_same(Refusal::Step, Refusal::Step));
-    assert!(rt; !are_the_same(Refusal::Step, Refusal::HallSize));
+    assert!(rt; Refusal::Step.is(Refusal::Step));
+    assert!(rt; !Refusal::Step.is(Refusal::HallSize));
 }
