@@ -1,7 +1,7 @@
 // The hash value after one more block: FIPS 180-4, section 6.2.2.
 ghost use Rattle.std.specs.Prelude.{◌≡◌, ℕ, ◌+◌, ◌<◌, ◌≤◌, List, take, slice_index};
 ghost use Rattle.words.specs.Computation.{added, compress, next_word, round, rounds, schedule};
-ghost use Rattle.words.specs.Padding.{words};
+ghost use Rattle.words.specs.Padding.{word, words};
 
 use super::constants::constant;
 use super::functions::{big_sigma, ch, maj, small_sigma};
@@ -24,8 +24,15 @@ fn read_words(block: &[u8; 64], w: &mut [u32; 64])
 {
     // not zipped with `w.iter_mut()`: a proof does not know what is written through it
     for (t, bytes) in block.as_chunks::<4>().0.iter().enumerate() {
-        w[t] = u32::from_be_bytes(*bytes);
+        w[t] = read_word(bytes);
     }
+}
+
+// The word of four bytes of the block.
+fn read_word(bytes: &[u8; 4]) -> u32
+    ensures { result ≡ word bytes.now 0 }
+{
+    u32::from_be_bytes(*bytes)
 }
 
 // The rest of the message schedule, whose first sixteen words w has.

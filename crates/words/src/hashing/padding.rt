@@ -1,5 +1,5 @@
 // The blocks that end a padded message: FIPS 180-4, section 5.1.1.
-ghost use Rattle.std.specs.Prelude.{◌≡◌, ℕ, ◌-◌, ◌*◌, ◌/◌, ◌%◌, ◌^◌, ◌<◌, List, ◌∷◌, ◌++◌, length, take, drop, replicate};
+ghost use Rattle.std.specs.Prelude.{◌≡◌, ℕ, ◌-◌, ◌*◌, ◌/◌, ◌%◌, ◌^◌, ◌<◌, List, ◌∷◌, ◌++◌, length, take, drop, replicate, slice_set};
 ghost use Rattle.words.specs.Computation.{hash};
 ghost use Rattle.words.specs.Padding.{bytes, pad};
 
@@ -28,8 +28,16 @@ fn marked(rest: &[u8]) -> [u8; 64]
 {
     let mut block = [0; 64];
     block[..rest.len()].copy_from_slice(rest);
-    block[rest.len()] = 0x80;
+    mark(&mut block, rest.len());
     block
+}
+
+// Puts the byte 80h at a place of a block.
+fn mark(block: &mut [u8; 64], at: usize)
+    requires { at < 64 }
+    ensures { block.new ≡ slice_set block.old at 0x80 }
+{
+    block[at] = 0x80;
 }
 
 // The block, with the length of the message in its last eight bytes.

@@ -9,8 +9,8 @@ use Rattle.words.proofs.hashing.compression.read_words.Goals as goal
 
 pub loop-t-preserved : goal.loop-t-preserved
 loop-t-preserved c =
-    let read = c.from_be_bytes.ensures ∙ word_at c.args.block.now c.as_chunks.result.0.now _ c.loop-t.t c.as_chunks.ensures.front (omega arith) in (
-      length-set c.loop-t.w c.loop-t.t c.from_be_bytes.result ∙ c.loop-t.invariant.0,
+    let read = c.read_word.ensures ∙ word_at c.args.block.now c.as_chunks.result.0.now _ c.loop-t.t c.as_chunks.ensures.front (omega arith) in (
+      length-set c.loop-t.w c.loop-t.t c.read_word.result ∙ c.loop-t.invariant.0,
       simp read (fill_by_more (word c.args.block.now) c.loop-t.w c.loop-t.t 0 (omega arith) c.loop-t.invariant.1),
     )
 
